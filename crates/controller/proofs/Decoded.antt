@@ -1,0 +1,54 @@
+-- The nine ranges of the instruction byte.
+use Prim.Native.Nat.{ℕ, _<_, _≤_, _%_}
+use mathlib.Core.Path.{_≡_}
+use native.Mathlib.Omega.{arith}
+use borrow.Author.Tests.{lt-ltb, le-ltb}
+use Rattle.place.specs.Address.{display, character}
+use Rattle.controller.specs.declared.instruction.Instruction.the-variants.{Nothing, Clear, Home, EntryMode, OnOff, Move, FunctionSet, SetCharacter, SetDisplay}
+use Rattle.controller.specs.Instructions.{decode, bit, lineCount, lineMode}
+
+module _ (b : ℕ) where
+  pub in-nothing : b < 0x01 → decode b ≡ Nothing
+  unfolding decode
+  in-nothing h = simp (lt-ltb b 0x01 h)
+
+  pub in-clear : 0x01 ≤ b → b < 0x02 → decode b ≡ Clear
+  unfolding decode
+  in-clear l h = simp (le-ltb b 0x01 l, lt-ltb b 0x02 h)
+
+  pub in-home : 0x02 ≤ b → b < 0x04 → decode b ≡ Home
+  unfolding decode
+  in-home l h = simp (le-ltb b 0x01 (omega arith), le-ltb b 0x02 l, lt-ltb b 0x04 h)
+
+  pub in-entry : 0x04 ≤ b → b < 0x08 → decode b ≡ EntryMode (record { up = bit 1 b; shifts = bit 0 b })
+  unfolding decode
+  in-entry l h = simp (le-ltb b 0x01 (omega arith), le-ltb b 0x02 (omega arith), le-ltb b 0x04 l, lt-ltb b 0x08 h)
+
+  pub in-lights : 0x08 ≤ b → b < 0x10 → decode b ≡ OnOff (record { display = bit 2 b; cursor = bit 1 b; blink = bit 0 b })
+  unfolding decode
+  in-lights l h =
+      simp (le-ltb b 0x01 (omega arith), le-ltb b 0x02 (omega arith), le-ltb b 0x04 (omega arith), le-ltb b 0x08 l, lt-ltb b 0x10 h)
+
+  pub in-move : 0x10 ≤ b → b < 0x20 → decode b ≡ Move (bit 3 b) (bit 2 b)
+  unfolding decode
+  in-move l h =
+      simp
+      (le-ltb b 0x01 (omega arith), le-ltb b 0x02 (omega arith), le-ltb b 0x04 (omega arith), le-ltb b 0x08 (omega arith), le-ltb b 0x10 l, lt-ltb b 0x20 h)
+
+  pub in-set : 0x20 ≤ b → b < 0x40 → decode b ≡ FunctionSet (lineCount (bit 4 b)) (record { lines = lineMode (bit 3 b); tall = bit 2 b })
+  unfolding decode
+  in-set l h =
+      simp
+      (le-ltb b 0x01 (omega arith), le-ltb b 0x02 (omega arith), le-ltb b 0x04 (omega arith), le-ltb b 0x08 (omega arith), le-ltb b 0x10 (omega arith), le-ltb b 0x20 l, lt-ltb b 0x40 h)
+
+  pub in-character : 0x40 ≤ b → b < 0x80 → decode b ≡ SetCharacter (character (b % 0x40))
+  unfolding decode
+  in-character l h =
+      simp
+      (le-ltb b 0x01 (omega arith), le-ltb b 0x02 (omega arith), le-ltb b 0x04 (omega arith), le-ltb b 0x08 (omega arith), le-ltb b 0x10 (omega arith), le-ltb b 0x20 (omega arith), le-ltb b 0x40 l, lt-ltb b 0x80 h)
+
+  pub in-display : 0x80 ≤ b → decode b ≡ SetDisplay (display (b % 0x80))
+  unfolding decode
+  in-display l =
+      simp
+      (le-ltb b 0x01 (omega arith), le-ltb b 0x02 (omega arith), le-ltb b 0x04 (omega arith), le-ltb b 0x08 (omega arith), le-ltb b 0x10 (omega arith), le-ltb b 0x20 (omega arith), le-ltb b 0x40 (omega arith), le-ltb b 0x80 l)

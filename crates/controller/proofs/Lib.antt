@@ -1,0 +1,5 @@
+pub mod Arms
+pub mod Decoded
+pub mod Ranged
+pub mod Outcomes
+pub mod Stored

@@ -1,0 +1,61 @@
+-- The test `inRange`, taken apart and put together.
+use Prim.Native.Nat.{ℕ, _≤_}
+use mathlib.Core.Path.{_≡_, subst}
+use mathlib.Core.Bool.{Bool, true, _&&_}
+use lib.Dec.{T, leb, leb→le, le→leb}
+use Rattle.place.specs.Counter.{hasCounter}
+use Rattle.place.specs.Shift.{hasShift}
+use Rattle.place.proofs.Tests.{holds, is-true, and-left, and-right, and-both}
+use Rattle.controller.specs.declared.bus.Half.{Half}
+use Rattle.controller.specs.declared.bus.LineCount.{LineCount}
+use Rattle.controller.specs.declared.registers.Registers.{Registers}
+use Rattle.controller.specs.Part.{inRange, isFour, halfFits}
+
+pub record InRange (r : Registers) : Type 0 where
+  pub counter : T (hasCounter (r .mode .lines) (r .counter))
+  pub shift : T (hasShift (r .mode .lines) (r .shift))
+  pub half : T (halfFits (r .bus) (r .half))
+  pub busy : r .busy ≤ 3750
+
+module _ (r : Registers) where
+  abbrev counter-test : Bool
+  counter-test = hasCounter (r .mode .lines) (r .counter)
+
+  abbrev shift-test : Bool
+  shift-test = hasShift (r .mode .lines) (r .shift)
+
+  abbrev half-test : Bool
+  half-test = halfFits (r .bus) (r .half)
+
+  abbrev busy-test : Bool
+  busy-test = leb (r .busy) 3750
+
+  pub facts : T (inRange r) → InRange r
+  unfolding inRange
+  facts t =
+      let s = and-right counter-test (shift-test && (half-test && busy-test)) t in
+      let h = and-right shift-test (half-test && busy-test) s in
+      record {
+        counter = and-left counter-test (shift-test && (half-test && busy-test)) t;
+        shift = and-left shift-test (half-test && busy-test) s;
+        half = and-left half-test busy-test h;
+        busy = leb→le (r .busy) 3750 (and-right half-test busy-test h);
+      }
+
+  pub test : InRange r → T (inRange r)
+  unfolding inRange
+  test f =
+      and-both counter-test (shift-test && (half-test && busy-test)) (f .counter)
+      (and-both shift-test (half-test && busy-test) (f .shift)
+      (and-both half-test busy-test (f .half) (le→leb (r .busy) 3750 (f .busy))))
+
+pub counter-exists : (r : Registers) → inRange r ≡ true → hasCounter (r .mode .lines) (r .counter) ≡ true
+counter-exists r t = is-true _ (facts r (holds (inRange r) t) .counter)
+
+-- the number of a waiting half that fits
+half-small : (b : LineCount) (u : ℕ) → T (isFour b && leb u 15) → u ≤ 15
+half-small b u t = leb→le u 15 (and-right (isFour b) (leb u 15) t)
+
+pub half-below : (r : Registers) (u : ℕ) {h : Half} → inRange r ≡ true → r .half ≡ h → halfFits (r .bus) h ≡ (isFour (r .bus) && leb u 15) → u ≤ 15
+half-below r u t e f =
+    half-small (r .bus) u (subst T f (subst (λ h. T (halfFits (r .bus) h)) e (facts r (holds (inRange r) t) .half)))

@@ -1,0 +1,104 @@
+// What the bus carries: four kinds of transfer on eight or four lines, and the first half of a byte that waits.
+ghost use mathlib.Core.Path.{_≡_};
+ghost use Rattle.controller.specs.Part.{isFour, halfFits};
+ghost use Rattle.controller.specs.Halves.{isData, isRead, alike as alikeOf, halfOf};
+ghost use Rattle.controller.specs.Transfer.{isStatus};
+
+pub enum Kind {
+    InstructionWrite,
+    DataWrite,
+    StatusRead,
+    DataRead,
+}
+
+// How many lines of the bus are used.
+pub enum LineCount {
+    Eight,
+    Four,
+}
+
+// The half of a read holds no number.
+pub enum Half {
+    Nothing,
+    InstructionWrite(u8),
+    DataWrite(u8),
+    StatusRead,
+    DataRead,
+}
+
+impl Kind {
+    // RS.
+    fn is_data(self) -> bool
+        ensures { λ r. ⌜ r ≡ isData self ⌝ }
+    {
+        match self {
+            Kind::InstructionWrite => false,
+            Kind::DataWrite => true,
+            Kind::StatusRead => false,
+            Kind::DataRead => true,
+        }
+    }
+
+    // R/W.
+    fn is_read(self) -> bool
+        ensures { λ r. ⌜ r ≡ isRead self ⌝ }
+    {
+        match self {
+            Kind::InstructionWrite => false,
+            Kind::DataWrite => false,
+            Kind::StatusRead => true,
+            Kind::DataRead => true,
+        }
+    }
+
+    pub fn is_status(self) -> bool
+        ensures { λ r. ⌜ r ≡ isStatus self ⌝ }
+    {
+        !self.is_data() & self.is_read()
+    }
+
+    // Whether a second half of this kind completes a first half of that one.
+    pub fn alike(self, first: Kind) -> bool
+        ensures { λ r. ⌜ r ≡ alikeOf first self ⌝ }
+    {
+        (first.is_data() == self.is_data()) & (first.is_read() == self.is_read())
+    }
+
+    // The half that waits once the upper four lines of a first half are taken.
+    pub fn half(self, upper: u8) -> Half
+        ensures { λ r. ⌜ r ≡ halfOf self upper ⌝ }
+    {
+        match self {
+            Kind::InstructionWrite => Half::InstructionWrite(upper),
+            Kind::DataWrite => Half::DataWrite(upper),
+            Kind::StatusRead => Half::StatusRead,
+            Kind::DataRead => Half::DataRead,
+        }
+    }
+}
+
+impl LineCount {
+    fn is_four(self) -> bool
+        ensures { λ r. ⌜ r ≡ isFour self ⌝ }
+    {
+        match self {
+            LineCount::Eight => false,
+            LineCount::Four => true,
+        }
+    }
+}
+
+impl Half {
+    pub fn fits(self, bus: LineCount) -> bool
+        ensures { λ r. ⌜ r ≡ halfFits bus self ⌝ }
+    {
+        let four = bus.is_four();
+        match self {
+            Half::Nothing => true,
+            Half::InstructionWrite(upper) => four & (upper <= 15),
+            Half::DataWrite(upper) => four & (upper <= 15),
+            Half::StatusRead => four,
+            Half::DataRead => four,
+        }
+    }
+}
