@@ -1,11 +1,16 @@
--- The nine ranges of the instruction byte.
+-- The nine ranges of the instruction byte, and which of them changes a memory.
 use Prim.Native.Nat.{ℕ, _<_, _≤_, _%_}
-use mathlib.Core.Path.{_≡_}
+use mathlib.Core.Path.{_≡_, refl}
+use mathlib.Core.Bool.{not}
 use native.Mathlib.Omega.{arith}
 use borrow.Author.Tests.{lt-ltb, le-ltb}
+use lib.Dec.{T, ltb, eqb, ltb→lt, nltb→le}
 use Rattle.place.specs.Address.{display, character}
+use Rattle.place.proofs.Tests.{split, neqb→ne}
+use Rattle.controller.specs.declared.change.Change.{Change}
+use Rattle.controller.specs.declared.instruction.Instruction.{Instruction}
 use Rattle.controller.specs.declared.instruction.Instruction.the-variants.{Nothing, Clear, Home, EntryMode, OnOff, Move, FunctionSet, SetCharacter, SetDisplay}
-use Rattle.controller.specs.Instructions.{decode, bit, lineCount, lineMode}
+use Rattle.controller.specs.Instructions.{decode, bit, lineCount, lineMode, changeOf}
 
 module _ (b : ℕ) where
   pub in-nothing : b < 0x01 → decode b ≡ Nothing
@@ -52,3 +57,19 @@ module _ (b : ℕ) where
   in-display l =
       simp
       (le-ltb b 0x01 (omega arith), le-ltb b 0x02 (omega arith), le-ltb b 0x04 (omega arith), le-ltb b 0x08 (omega arith), le-ltb b 0x10 (omega arith), le-ltb b 0x20 (omega arith), le-ltb b 0x40 (omega arith), le-ltb b 0x80 l)
+
+-- only Clear, the byte 01, changes a memory
+NoChange : Instruction → Type 0
+NoChange i = changeOf i ≡ Change.Nothing
+
+pub only-clear-changes : (b : ℕ) → T (not (eqb b 0x01)) → changeOf (decode b) ≡ Change.Nothing
+unfolding NoChange decode changeOf
+only-clear-changes b t =
+    split NoChange (ltb b 0x01) (λ u. refl) (λ u.
+    split NoChange (ltb b 0x02) (λ v. absurd (neqb→ne b 0x01 t (omega (arith, nltb→le b 0x01 u, ltb→lt b 0x02 v)))) (λ v.
+    split NoChange (ltb b 0x04) (λ v. refl) (λ v.
+    split NoChange (ltb b 0x08) (λ v. refl) (λ v.
+    split NoChange (ltb b 0x10) (λ v. refl) (λ v.
+    split NoChange (ltb b 0x20) (λ v. refl) (λ v.
+    split NoChange (ltb b 0x40) (λ v. refl) (λ v.
+    split NoChange (ltb b 0x80) (λ v. refl) (λ v. refl))))))))

@@ -1,5 +1,2 @@
-pub mod Arms
 pub mod Decoded
 pub mod Ranged
-pub mod Outcomes
-pub mod Stored

@@ -6,8 +6,8 @@ use lib.Dec.{T, leb, leb→le, le→leb}
 use Rattle.place.specs.Counter.{hasCounter}
 use Rattle.place.specs.Shift.{hasShift}
 use Rattle.place.proofs.Tests.{holds, is-true, and-left, and-right, and-both}
-use Rattle.controller.specs.declared.bus.Half.{Half}
-use Rattle.controller.specs.declared.bus.LineCount.{LineCount}
+use Rattle.controller.specs.declared.half.Half.{Half}
+use Rattle.controller.specs.declared.half.LineCount.{LineCount}
 use Rattle.controller.specs.declared.registers.Registers.{Registers}
 use Rattle.controller.specs.Part.{inRange, isFour, halfFits}
 

@@ -1,5 +1,5 @@
--- "Instructions": the table by its columns (byte, effect, ticks), then data and status.
-use Prim.Native.Nat.{ℕ, _+_, _/_, _%_, _^_}
+-- "Instructions": the table by its columns: byte, effect, ticks.
+use Prim.Native.Nat.{ℕ, _/_, _%_, _^_}
 use mathlib.Core.Bool.{Bool, true, false, cond, not}
 use lib.Dec.{ltb, eqb}
 use Rattle.place.specs.declared.LineMode.{LineMode}
@@ -8,21 +8,19 @@ use Rattle.place.specs.declared.counter.Counter.{Counter}
 use Rattle.place.specs.declared.counter.Counter.the-variants.{Display, Character}
 use Rattle.place.specs.declared.shift.Shift.{Shift}
 use Rattle.place.specs.Address.{display, character, hasDisplay}
-use Rattle.place.specs.Counter.{stepOf, numberOn}
+use Rattle.place.specs.Counter.{stepOf}
 use Rattle.place.specs.Shift.{shift, moveOf}
-use Rattle.controller.specs.declared.bus.Kind.{Kind}
-use Rattle.controller.specs.declared.bus.Half.{Half}
-use Rattle.controller.specs.declared.bus.LineCount.{LineCount}
-use Rattle.controller.specs.declared.bus.LineCount.the-variants.{Eight, Four}
+use Rattle.controller.specs.declared.half.Half.{Half}
+use Rattle.controller.specs.declared.half.LineCount.{LineCount}
+use Rattle.controller.specs.declared.half.LineCount.the-variants.{Eight, Four}
 use Rattle.controller.specs.declared.instruction.Instruction.{Instruction}
 use Rattle.controller.specs.declared.instruction.Instruction.the-variants.{Nothing, Clear, Home, EntryMode, OnOff, Move, FunctionSet, SetCharacter, SetDisplay}
-use Rattle.controller.specs.declared.memory.Change.{Change}
+use Rattle.controller.specs.declared.change.Change.{Change}
 use Rattle.controller.specs.declared.registers.Mode.{Mode}
 use Rattle.controller.specs.declared.registers.Registers.{Registers}
 use Rattle.controller.specs.declared.effect.Effect.{Effect}
 use Rattle.controller.specs.Answers.{numberOf, valueOf}
 use Rattle.controller.specs.Part.{placed, arranged, entered, lit, awaiting}
-use Rattle.controller.specs.Memory.{storeAt}
 
 -- ---- byte: the highest bit that is set decides
 unfoldable pub bit : ℕ → ℕ → Bool
@@ -147,38 +145,3 @@ lacking (SetDisplay a) lines = not (hasDisplay lines a)
 
 unfoldable pub obey : Instruction → Registers → Result
 obey i r = cond (lacking i (r .mode .lines)) (forgotten 3 r) (done 0 (ticksOf i) (effectOf i r) (changeOf i))
-
--- ---- data and status
--- if the cell was in display memory and shift on write is set, the display then moves left for direction up, right for down
-unfoldable pub shiftAfter : Counter → Registers → Shift
-shiftAfter (Display a) r = cond (r .entry .shifts) (moveOf (r .mode .lines) (not (r .entry .up)) (r .shift)) (r .shift)
-shiftAfter (Character a) r = r .shift
-
--- a data write stores the byte in the one addressed cell, then steps the counter in the set direction
-unfoldable pub writeData : Registers → ℕ → Result
-writeData r n =
-    done 0 10
-    (placed r (stepOf (r .mode .lines) (r .entry .up) (r .counter)) (shiftAfter (r .counter) r))
-    (storeAt (r .mode .lines) (r .counter) n)
-
--- a data read returns the addressed byte, steps the counter, never moves the display
-unfoldable pub readData : Registers → ℕ → Result
-readData r v = done v 10 (stepped (r .entry .up) r) Change.Nothing
-
--- a status read takes no ticks
-unfoldable pub readStatus : Registers → ℕ → Result
-readStatus r v = done v (r .busy) r Change.Nothing
-
--- a status read returns 128 if busy, plus the address; a data read the addressed byte b
-unfoldable pub readOf : Kind → Registers → ℕ → ℕ
-readOf Kind.InstructionWrite r b = 0
-readOf Kind.DataWrite r b = 0
-readOf Kind.StatusRead r b = cond (eqb (r .busy) 0) 0 128 + numberOn (r .counter)
-readOf Kind.DataRead r b = b
-
--- a whole transfer: the byte n is written, or the value v is read; a number handed in with a read is ignored
-unfoldable pub act : Kind → Registers → (n v : ℕ) → Result
-act Kind.InstructionWrite r n v = obey (decode n) r
-act Kind.DataWrite r n v = writeData r n
-act Kind.StatusRead r n v = readStatus r v
-act Kind.DataRead r n v = readData r v

@@ -12,10 +12,10 @@ use Rattle.place.specs.Address.{display}
 use Rattle.place.specs.Counter.{hasCounter}
 use Rattle.place.specs.Shift.{shift, hasShift}
 use Rattle.controller.specs.declared.Controller.{Controller}
-use Rattle.controller.specs.declared.bus.LineCount.{LineCount}
-use Rattle.controller.specs.declared.bus.LineCount.the-variants.{Eight, Four}
-use Rattle.controller.specs.declared.bus.Half.{Half}
-use Rattle.controller.specs.declared.bus.Half.the-variants.{Nothing, InstructionWrite, DataWrite, StatusRead, DataRead}
+use Rattle.controller.specs.declared.half.LineCount.{LineCount}
+use Rattle.controller.specs.declared.half.LineCount.the-variants.{Eight, Four}
+use Rattle.controller.specs.declared.half.Half.{Half}
+use Rattle.controller.specs.declared.half.Half.the-variants.{Nothing, InstructionWrite, DataWrite, StatusRead, DataRead}
 use Rattle.controller.specs.declared.registers.Mode.{Mode}
 use Rattle.controller.specs.declared.registers.Entry.{Entry}
 use Rattle.controller.specs.declared.registers.Lights.{Lights}

@@ -3,8 +3,8 @@ ghost use mathlib.Core.Path.{_≡_};
 ghost use Rattle.controller.specs.Part.{awaiting};
 ghost use Rattle.controller.specs.Instructions.{resultOf, done as doneOf};
 use super::answer::Answer;
-use super::bus::Half;
-use super::memory::Change;
+use super::change::Change;
+use super::half::Half;
 use super::registers::Registers;
 
 pub struct Effect {

@@ -1,7 +1,7 @@
 // The nine instructions: in a byte written with RS = 0 the highest bit that is set decides.
 ghost use mathlib.Core.Path.{_≡_};
 ghost use Rattle.controller.specs.Instructions.{lineCount, lineMode, decode as decodeOf};
-use super::bus::LineCount;
+use super::half::LineCount;
 use super::registers::Entry;
 use super::registers::Lights;
 use super::registers::Mode;

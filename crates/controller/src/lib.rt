@@ -1,22 +1,17 @@
-// The character controller: two memories and a handful of registers, changed only by bus transfers and waits.
+// The character controller: two memories and a handful of registers, and what each instruction does to them.
 ghost use mathlib.Core.Path.{_≡_};
 ghost use Rattle.controller.specs.Part.{switchedOn};
-ghost use Rattle.controller.specs.Transfer.{told, transferOf, waitOf};
 
 pub mod answer;
-pub mod bus;
-mod data;
+pub mod change;
 pub mod effect;
+pub mod half;
 pub mod instruction;
-pub mod memory;
-mod obey;
+pub mod obey;
 pub mod registers;
-pub mod step;
 
-use answer::Answer;
-use bus::Half;
-use bus::Kind;
-use bus::LineCount;
+use half::Half;
+use half::LineCount;
 use place::LineMode;
 use place::address::DisplayAddress;
 use place::counter::Counter;
@@ -30,12 +25,6 @@ pub struct Controller {
     pub display: [u8; 80],
     pub character: [u8; 64],
     pub registers: Registers,
-}
-
-// What a transfer or a wait comes to.
-pub struct Outcome {
-    pub controller: Controller,
-    pub answer: Answer,
 }
 
 impl Controller {
@@ -75,53 +64,5 @@ impl Controller {
                 busy: Controller::LONGEST,
             },
         }
-    }
-}
-
-pub fn transfer(controller: Controller, kind: Kind, value: u8) -> Outcome
-    ensures { λ r. ⌜ told r ≡ transferOf controller kind value ⌝ }
-{
-    let registers = controller.registers;
-    if !registers.in_range() {
-        return Outcome {
-            controller,
-            answer: Answer::NotInRange,
-        };
-    }
-    let mut display = controller.display;
-    let mut character = controller.character;
-    let byte = memory::addressed(&display, &character, registers);
-    let effect = step::step(registers, kind, value, byte);
-    let change = effect.change;
-    memory::apply(&mut display, &mut character, change);
-    let after = effect.registers;
-    let answer = effect.answer;
-    Outcome {
-        controller: Controller {
-            display,
-            character,
-            registers: after,
-        },
-        answer,
-    }
-}
-
-pub fn wait(controller: Controller, ticks: u16) -> Outcome
-    ensures { λ r. ⌜ told r ≡ waitOf controller ticks ⌝ }
-{
-    let registers = controller.registers;
-    if !registers.in_range() {
-        return Outcome {
-            controller,
-            answer: Answer::NotInRange,
-        };
-    }
-    let after = registers.waited(ticks);
-    Outcome {
-        controller: Controller {
-            registers: after,
-            ..controller
-        },
-        answer: Answer::Done(0),
     }
 }

@@ -2,8 +2,8 @@
 ghost use mathlib.Core.Path.{_≡_};
 ghost use Rattle.controller.specs.Part.{inRange, waited as waitedOf};
 use super::Controller;
-use super::bus::Half;
-use super::bus::LineCount;
+use super::half::Half;
+use super::half::LineCount;
 use place::LineMode;
 use place::counter::Counter;
 use place::shift::Shift;

@@ -1,10 +1,10 @@
 -- Tests as facts, and one computed test for every number below a bound.
 use Prim.Native.Nat.{ℕ, zero, suc, _<_}
 use mathlib.Core.Path.{_≡_, refl, subst, sym}
-use mathlib.Core.Logic.{_⊎_, inl, inr, ⊎-elim}
+use mathlib.Core.Logic.{_⊎_, _≢_, inl, inr, ⊎-elim}
 use mathlib.Core.Bool.{Bool, true, false, cond, _&&_, _||_, not}
 use native.Mathlib.Nat.{not-suc-le-zero, eq-or-lt-of-le, le-of-suc-le-suc}
-use lib.Dec.{T}
+use lib.Dec.{T, eqb, eqb-refl, T-not}
 
 pub is-true : (b : Bool) → T b → b ≡ true
 is-true true t = refl
@@ -16,6 +16,10 @@ is-false false t = refl
 
 pub holds : (b : Bool) → b ≡ true → T b
 holds b e = subst T (sym e) tt
+
+pub not-not : (b : Bool) → T (not (not b)) → T b
+not-not true t = tt
+not-not false t = t
 
 pub and-left : (a b : Bool) → T (a && b) → T a
 and-left true b t = tt
@@ -60,3 +64,6 @@ each f (suc n) t k h =
     (λ (e : k ≡ n). subst (λ (m : ℕ). T (f m)) (sym e) (and-left (f n) (every f n) t))
     (λ (l : k < n). each f n (and-right (f n) (every f n) t) k l)
     (eq-or-lt-of-le (le-of-suc-le-suc h))
+
+pub neqb→ne : (a b : ℕ) → T (not (eqb a b)) → a ≢ b
+neqb→ne a b t e = T-not (eqb a b) t (subst (λ (n : ℕ). T (eqb a n)) e (eqb-refl a))

@@ -1,7 +1,13 @@
-use Rattle.controller.proofs.Arms.{obeys}
 use borrow.Author.Needs.{needs}
 use Rattle.controller.proofs.obey.obey.Statement.{statement}
 use Rattle.controller.proofs.obey.obey.Tie as tie
+use mathlib.Core.Path.{_≡_, _∙_, ap, sym}
+use Rattle.controller.specs.declared.instruction.Instruction.{Instruction}
+use Rattle.controller.specs.declared.registers.Registers.{Registers}
+use Rattle.controller.specs.Instructions.{Result, obey}
+
+obeys : (r : Registers) {i j : Instruction} {x : Result} → i ≡ j → x ≡ obey j r → x ≡ obey i r
+obeys r e p = p ∙ ap (λ i. obey i r) (sym e)
 
 enum-told : tie.Need-enum-told
 enum-told c = search needs

@@ -1,10 +1,18 @@
-use mathlib.Core.Path.{refl}
+use mathlib.Core.Path.{_≡_, _∙_, refl, sym}
 use Rattle.place.specs.declared.LineMode.the-variants.{One, Two}
-use Rattle.controller.proofs.Arms.{rearranged-from}
-use Rattle.controller.specs.Instructions.{counterFor, shiftFor}
+use Rattle.controller.specs.Instructions.{rearranged, counterFor, shiftFor}
 use borrow.Author.Needs.{needs}
 use Rattle.controller.proofs.obey.rearranged.Statement.{statement}
 use Rattle.controller.proofs.obey.rearranged.Tie as tie
+use Rattle.place.specs.declared.LineMode.{LineMode}
+use Rattle.controller.specs.declared.registers.Registers.{Registers}
+use Rattle.controller.specs.Part.{placed}
+
+rearranged-from : (before after : LineMode) (r : Registers) {lines : LineMode} {x : Registers} → r .mode .lines ≡ before → lines ≡ after
+    → x ≡ placed r (counterFor before after (r .counter)) (shiftFor before after (r .shift)) → x ≡ rearranged lines r
+unfolding rearranged
+rearranged-from before after r p q e =
+    e ∙ (λ i. placed r (counterFor (sym p i) (sym q i) (r .counter)) (shiftFor (sym p i) (sym q i) (r .shift)))
 
 enum-told : tie.Need-enum-told
 enum-told c = search needs

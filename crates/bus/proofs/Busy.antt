@@ -1,0 +1,95 @@
+-- Busy time: after each answer what the table says, lowered by waits, and waited out by 3,750 ticks.
+use Prim.Native.Nat.{ℕ, _+_, _-_, _≤_}
+use mathlib.Core.Path.{_≡_, refl, sym, ap, _∙_, subst}
+use mathlib.Core.Logic.{_≢_}
+use mathlib.Core.Bool.{Bool, true, false, cond, _&&_, not}
+use mathlib.Core.List.{List, [], _∷_}
+use native.Mathlib.Omega.{arith}
+use borrow.Author.Tests.{eq-eqb}
+use lib.Dec.{T, eqb, T-not}
+use Rattle.place.proofs.Tests.{split, is-true, not-not, and-left, and-right}
+use Rattle.controller.specs.declared.Controller.{Controller}
+use Rattle.controller.specs.declared.registers.Registers.{Registers}
+use Rattle.controller.specs.Part.{inRange, waited}
+use Rattle.controller.specs.Instructions.{Result, decode, lacking, obey, ticksOf}
+use Rattle.controller.proofs.Ranged.{InRange, facts}
+use Rattle.bus.specs.declared.kind.Kind.{Kind}
+use Rattle.bus.specs.Data.{act, writeData, readData, readStatus}
+use Rattle.bus.specs.Halves.{firstHalf}
+use Rattle.bus.specs.Transfer.{Told, isStatus, refusedBusy, stepOf, addressed, carried, notInRange, waitedTold, transferOf, waitOf}
+use Rattle.bus.specs.Events.{Wait, toldBy, waits, sum}
+use Rattle.bus.specs.Refusals.{completed, conditions}
+use Rattle.bus.specs.Theorems.{busyFor, BusyByTable, WaitLowers, WaitedEnough}
+use Rattle.bus.proofs.Outcomes.{of-step, of-transfer, of-wait}
+use Rattle.bus.proofs.Numbers.{given-exactly}
+use Rattle.bus.proofs.Range.{range-kept}
+
+module _ (c : Controller) (k : Kind) (n : ℕ) where
+  ByTable : Told → Type 0
+  ByTable t = t .controller .registers .busy ≡ cond (eqb (t .number) 0) (busyFor k c n) (c .registers .busy)
+
+  StepByTable : Result → Type 0
+  StepByTable s = s .registers .busy ≡ cond (eqb (s .number) 0) (busyFor k c n) (c .registers .busy)
+
+act-by-table : (c : Controller) (k : Kind) (n v : ℕ) → StepByTable c k n (act k (c .registers) (completed (c .registers .bus) (c .registers .half) n) v)
+unfolding StepByTable busyFor act obey writeData readStatus readData
+act-by-table c Kind.InstructionWrite n v =
+    split (StepByTable c Kind.InstructionWrite n) (lacking (decode (completed (c .registers .bus) (c .registers .half) n)) (c .registers .mode .lines))
+    (λ t. refl)
+    (λ t. refl)
+act-by-table c Kind.DataWrite n v = refl
+act-by-table c Kind.StatusRead n v = refl
+act-by-table c Kind.DataRead n v = refl
+
+pub busy-by-table : BusyByTable
+unfolding ByTable StepByTable firstHalf
+busy-by-table c k n =
+    of-transfer (ByTable c k n) c k n
+    (λ t. of-step (StepByTable c k n) (c .registers) k n (addressed c) refl (act-by-table c k n) (λ v u. refl) refl)
+    refl
+
+-- ---- waits
+waited-told : (c : Controller) (n : ℕ) → T (inRange (c .registers)) → waitOf c n ≡ waitedTold c n
+unfolding waitOf
+waited-told c n t = ap (λ (b : Bool). cond b (waitedTold c n) (notInRange c)) (is-true (inRange (c .registers)) t)
+
+pub wait-lowers : WaitLowers
+unfolding waited
+wait-lowers c n t = ap (λ (x : Told). x .controller .registers .busy) (waited-told c n t)
+
+pub waits-kept : (ns : List ℕ) (c : Controller) → T (inRange (c .registers)) → T (inRange (waits ns c .registers))
+unfolding waits toldBy
+waits-kept [] c t = t
+waits-kept (n ∷ ns) c t = waits-kept ns (waitOf c n .controller) (range-kept (Wait n) c t)
+
+pub waits-lower : (ns : List ℕ) (c : Controller) → T (inRange (c .registers)) → waits ns c .registers .busy ≡ c .registers .busy - sum ns
+unfolding waits toldBy
+waits-lower [] c t = omega arith
+waits-lower (n ∷ ns) c t =
+    let e : waitOf c n .controller .registers .busy ≡ c .registers .busy - n = wait-lowers c n t in
+    waits-lower ns (waitOf c n .controller) (range-kept (Wait n) c t) ∙ omega arith
+
+-- waits do not bring a controller into range
+InRangeBefore : Controller → Told → Type 0
+InRangeBefore c t = T (inRange (t .controller .registers)) → T (inRange (c .registers))
+
+in-range-before : (ns : List ℕ) (c : Controller) → T (inRange (waits ns c .registers)) → T (inRange (c .registers))
+unfolding waits InRangeBefore
+in-range-before [] c t = t
+in-range-before (n ∷ ns) c t =
+    of-wait (InRangeBefore c) c n (λ u v. u) (λ v. v) (in-range-before ns (waitOf c n .controller) t)
+
+-- a part that is not busy refuses nothing with 1
+pub idle : (c : Controller) (k : Kind) (n : ℕ) → c .registers .busy ≡ 0 → T (not (refusedBusy (c .registers) k))
+unfolding refusedBusy
+idle c k n e = subst (λ (b : Bool). T (not (not b && not (isStatus k)))) (sym (eq-eqb _ _ e)) tt
+
+pub waited-enough : WaitedEnough
+unfolding conditions
+waited-enough c ns h k n e =
+    let on = given-exactly (waits ns c) k n .one .0 e in
+    let t = in-range-before ns c (not-not (inRange (waits ns c .registers)) (and-left (not (not (inRange (waits ns c .registers)))) (refusedBusy (waits ns c .registers) k) on)) in
+    let f : InRange (c .registers) = facts (c .registers) t in
+    let z : waits ns c .registers .busy ≡ 0 = waits-lower ns c t ∙ omega arith in
+    T-not (refusedBusy (waits ns c .registers) k) (idle (waits ns c) k n z)
+    (and-right (not (not (inRange (waits ns c .registers)))) (refusedBusy (waits ns c .registers) k) on)

@@ -1,0 +1,66 @@
+// The bus: transfers and waits, the only things that change a controller.
+ghost use mathlib.Core.Path.{_≡_};
+ghost use Rattle.bus.specs.Transfer.{told, transferOf, waitOf};
+
+mod data;
+pub mod kind;
+pub mod memory;
+pub mod step;
+
+use controller::Controller;
+use controller::answer::Answer;
+use kind::Kind;
+
+// What a transfer or a wait comes to.
+pub struct Outcome {
+    pub controller: Controller,
+    pub answer: Answer,
+}
+
+pub fn transfer(controller: Controller, kind: Kind, value: u8) -> Outcome
+    ensures { λ r. ⌜ told r ≡ transferOf controller kind value ⌝ }
+{
+    let registers = controller.registers;
+    if !registers.in_range() {
+        return Outcome {
+            controller,
+            answer: Answer::NotInRange,
+        };
+    }
+    let mut display = controller.display;
+    let mut character = controller.character;
+    let byte = memory::addressed(&display, &character, registers);
+    let effect = step::step(registers, kind, value, byte);
+    let change = effect.change;
+    memory::apply(&mut display, &mut character, change);
+    let after = effect.registers;
+    let answer = effect.answer;
+    Outcome {
+        controller: Controller {
+            display,
+            character,
+            registers: after,
+        },
+        answer,
+    }
+}
+
+pub fn wait(controller: Controller, ticks: u16) -> Outcome
+    ensures { λ r. ⌜ told r ≡ waitOf controller ticks ⌝ }
+{
+    let registers = controller.registers;
+    if !registers.in_range() {
+        return Outcome {
+            controller,
+            answer: Answer::NotInRange,
+        };
+    }
+    let after = registers.waited(ticks);
+    Outcome {
+        controller: Controller {
+            registers: after,
+            ..controller
+        },
+        answer: Answer::Done(0),
+    }
+}
