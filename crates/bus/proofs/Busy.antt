@@ -49,7 +49,7 @@ busy-by-table c k n =
     refl
 
 -- ---- waits
-waited-told : (c : Controller) (n : ℕ) → T (inRange (c .registers)) → waitOf c n ≡ waitedTold c n
+pub waited-told : (c : Controller) (n : ℕ) → T (inRange (c .registers)) → waitOf c n ≡ waitedTold c n
 unfolding waitOf
 waited-told c n t = ap (λ (b : Bool). cond b (waitedTold c n) (notInRange c)) (is-true (inRange (c .registers)) t)
 

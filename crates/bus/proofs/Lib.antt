@@ -7,3 +7,4 @@ pub mod Cells
 pub mod Reading
 pub mod Busy
 pub mod Settled
+pub mod Free
