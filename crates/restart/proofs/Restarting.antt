@@ -38,9 +38,10 @@ Sets h b = (l : ℕ) → l < 16 → (m : Mode) × (decode (h * 16 + l) ≡ Funct
 sets : (h : ℕ) (b : LineCount) → (2 ≤ h) × (h ≤ 3) → ((l : ℕ) → l < 16 → lineCount (bit 4 (h * 16 + l)) ≡ b) → Sets h b
 unfolding Sets
 sets h b k e = λ l p.
-    let n : ℕ = h * 16 + l in
-    (record { lines = lineMode (bit 3 n); tall = bit 2 n },
-    in-set n (omega arith) (omega arith) ∙ ap (λ (x : LineCount). FunctionSet x (record { lines = lineMode (bit 3 n); tall = bit 2 n })) (e l p))
+    let n : ℕ = h * 16 + l in (
+      record { lines = lineMode (bit 3 n); tall = bit 2 n },
+      in-set n (omega arith) (omega arith) ∙ ap (λ (x : LineCount). FunctionSet x (record { lines = lineMode (bit 3 n); tall = bit 2 n })) (e l p),
+    )
 
 three-sets-eight : Sets 3 Eight
 unfolding Sets bit

@@ -12,7 +12,7 @@ use Rattle.bus.specs.Transfer.{transferOf}
 use Rattle.bus.specs.Events.{Event, Transfer, toldBy, run, reached, saidBy, waits}
 use Rattle.bus.proofs.Range.{range-kept, fresh-in-range, reached-in-range}
 use Rattle.bus.proofs.Busy.{waits-kept, waits-lower}
-use Rattle.restart.specs.Writes.{halves, Write, written, Given, after, AtEach, patient, FourLines}
+use Rattle.restart.specs.Writes.{halves, Write, written, Given, after, AtEach, patiently, patient, FourLines}
 use Rattle.restart.specs.Statement.{Holds, answers, freshLike, Restarts, ThirdStatement, ForEveryController}
 use Rattle.restart.proofs.Leads.{Came, leads-to}
 use Rattle.restart.proofs.Restarting.{Allowed, Restarted, restarted, restart-leads}
@@ -24,7 +24,7 @@ possible [] [] c t g = tt
 possible [] (l ∷ ls) c t g = absurd g
 possible (h ∷ hs) [] c t g = absurd g
 possible (h ∷ hs) (l ∷ ls) c t g =
-    let w : Write = record { before = 3750 ∷ []; lower = l } in
+    let w : Write = patiently l in
     let b : c .registers .busy ≤ 3750 = facts (c .registers) t .busy in
     let e : waits (3750 ∷ []) c .registers .busy ≡ 0 = waits-lower (3750 ∷ []) c t ∙ omega arith in
     let t′ : T (inRange (written h w c .controller .registers)) =

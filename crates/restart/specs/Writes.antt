@@ -1,8 +1,9 @@
 -- "The standard restart": twelve writes with RS = 0, given after waits, and what each is answered.
-use Prim.Native.Nat.{ℕ, suc, _+_, _*_, _<_}
+use Prim.Native.Nat.{ℕ, zero, suc, _+_, _*_, _%_, _<_}
 use mathlib.Core.Path.{_≡_}
 use mathlib.Core.Bool.{cond}
 use mathlib.Core.List.{List, [], _∷_}
+use lib.ListN.{getD}
 use Rattle.controller.specs.declared.Controller.{Controller}
 use Rattle.controller.specs.Part.{inRange}
 use Rattle.bus.specs.declared.kind.Kind.{Kind}
@@ -42,9 +43,12 @@ AtEach P i (h ∷ hs) [] c = Unit {0}
 AtEach P i (h ∷ hs) (w ∷ ws) c = P i (written h w c) × AtEach P (suc i) hs ws (written h w c .controller)
 
 -- writes with these lower lines, each after a wait of 3,750 ticks
+abbrev pub patiently : ℕ → Write
+patiently l = record { before = 3750 ∷ []; lower = l }
+
 unfoldable pub patient : List ℕ → List Write
 patient [] = []
-patient (l ∷ ls) = record { before = 3750 ∷ []; lower = l } ∷ patient ls
+patient (l ∷ ls) = patiently l ∷ patient ls
 
 -- four lower lines for each of the upper halves
 unfoldable pub FourLines : List ℕ → List ℕ → Type 0
@@ -52,6 +56,14 @@ FourLines [] [] = Unit {0}
 FourLines [] (l ∷ ls) = ⊥
 FourLines (h ∷ hs) [] = ⊥
 FourLines (h ∷ hs) (l ∷ ls) = (l < 16) × FourLines hs ls
+
+-- the lower halves of twelve numbers
+abbrev pub lowerFrom : ℕ → ℕ → List ℕ → List ℕ
+lowerFrom i zero ls = []
+lowerFrom i (suc n) ls = (getD ls i 0 % 16) ∷ lowerFrom (i + 1) n ls
+
+abbrev pub lowerLines : List ℕ → List ℕ
+lowerLines ls = lowerFrom 0 12 ls
 
 -- the whole restart with these lower lines, each write after a wait of 3,750 ticks: answered 0, or 16 for a controller that is not in range
 unfoldable pub restartOf : Controller → List ℕ → Told

@@ -1,10 +1,47 @@
 // The standard restart for four lines, as transfers and waits.
+ghost use Prim.Native.Nat.{_≤_, _%_};
 ghost use mathlib.Core.Path.{_≡_};
 ghost use Rattle.bus.specs.Transfer.{told};
-ghost use Rattle.restart.specs.Writes.{restartOf};
-
+ghost use Rattle.restart.specs.Writes.{patiently, written, lowerLines, restartOf};
 use bus::Outcome;
 use bus::kind::Kind;
 use controller::Controller;
 use controller::answer::Answer;
-pub fn probe(x: u8) -> u8 { x }
+
+// One write of the restart, after the busy time.
+fn write(controller: Controller, upper: u8, lower: u8) -> Controller
+    requires { ⌜ upper ≤ 15 ⌝ }
+    ensures { λ r. ⌜ r ≡ written upper (patiently (lower % 16)) controller .controller ⌝ }
+{
+    let waited = bus::wait(controller, Controller::LONGEST);
+    let free = waited.controller;
+    let wrote = bus::transfer(free, Kind::InstructionWrite, upper * 16 + lower % 16);
+    let after = wrote.controller;
+    after
+}
+
+// The upper lines: 3, 3, 3, 2, then 28, 08, 02, 06 (hex), each as two halves.
+const UPPER: [u8; 12] = [0x3, 0x3, 0x3, 0x2, 0x2, 0x8, 0x0, 0x8, 0x0, 0x2, 0x0, 0x6];
+
+// The lower four lines of each write are the caller's: of each number the low half counts.
+pub fn restart(controller: Controller, lower: [u8; 12]) -> Outcome
+    ensures { λ r. ⌜ told r ≡ restartOf controller (lowerLines lower) ⌝ }
+{
+    let registers = controller.registers;
+    if !registers.in_range() {
+        return Outcome {
+            controller,
+            answer: Answer::NotInRange,
+        };
+    }
+    let mut after = controller;
+    let mut i = 0;
+    while i < 12 {
+        after = write(after, UPPER[i], lower[i]);
+        i += 1;
+    }
+    Outcome {
+        controller: after,
+        answer: Answer::Done(0),
+    }
+}

@@ -1,0 +1,31 @@
+use Prim.Native.Nat.{_+_, _*_, _%_}
+use mathlib.Core.Path.{ap, _∙_}
+use Rattle.bus.specs.declared.kind.Kind.{Kind}
+use Rattle.bus.specs.Transfer.{Told, transferOf}
+use Rattle.bus.specs.Events.{waits}
+use Rattle.restart.specs.Writes.{written}
+use borrow.Author.Needs.{needs}
+use Rattle.restart.proofs.write.Statement.{statement}
+use Rattle.restart.proofs.write.Tie as tie
+
+wait-requires : tie.Need-wait-requires
+wait-requires c κs = search needs
+
+mul-transfer : tie.Need-mul-transfer
+mul-transfer c = search needs
+
+add-transfer : tie.Need-add-transfer
+add-transfer c = search needs
+
+transfer-requires : tie.Need-transfer-requires
+transfer-requires c κs = search needs
+
+returns : tie.Need-returns
+unfolding written waits
+returns c =
+    ap (λ (t : Told). t .controller) (c .before .transfer .ensures)
+    ∙ ap (λ (t : Told). transferOf (t .controller) Kind.InstructionWrite (c .before .before .before .before .args .upper * 16 + c .before .before .before .before .args .lower % 16) .controller)
+    (c .before .before .before .wait .ensures)
+
+pub write-spec : {M : Type 1} → statement M
+write-spec = tie.close (tie.spec wait-requires mul-transfer add-transfer transfer-requires returns)
