@@ -4,6 +4,7 @@ use mathlib.Core.Path.{_≡_, refl, sym, ap, _∙_, subst, subst⁻¹}
 use mathlib.Core.Bool.{Bool, true, false, not, _&&_, _||_}
 use mathlib.Core.List.{List, [], _∷_}
 use native.Mathlib.Omega.{arith}
+use lib.ListN.{drop}
 use lib.Dec.{T, ltb, eqb, ltb→lt, eqb→eq, not-T}
 use Rattle.place.specs.declared.LineMode.the-variants.{Two}
 use Rattle.place.specs.declared.counter.Counter.the-variants.{Display}
@@ -87,10 +88,10 @@ Allowed i m = T (answers i m)
 
 -- the upper lines behind 3, 3, 3, 2, and behind the first 3
 abbrev bytes : List ℕ
-bytes = 2 ∷ 8 ∷ 0 ∷ 8 ∷ 0 ∷ 2 ∷ 0 ∷ 6 ∷ []
+bytes = drop 4 halves
 
 abbrev others : List ℕ
-others = 3 ∷ 3 ∷ 2 ∷ bytes
+others = drop 1 halves
 
 To : ℕ → List ℕ → Registers → Type 0
 To i hs r = Leads Allowed Restarted i hs r
@@ -149,27 +150,28 @@ byte-leads i u h hs r p q n e f a go =
     (second-leads (suc i) u h hs (awaiting r (Half.InstructionWrite u) 0) (ltb→lt h 16 q) e refl n a go)
 
 -- 28, 08, 02, 06
+arrived : (i : ℕ) (r : Registers) → r ≡ restarted → To i [] r
+unfolding To Leads Restarted
+arrived i r e = e
+
 bytes-lead : (i : ℕ) (r : Registers) → r .bus ≡ Four → r .half ≡ Half.Nothing → To i bytes r
-unfolding To Leads Restarted restarted decode bit lacking effectOf ticksOf rearranged obey
+unfolding restarted decode bit lacking effectOf ticksOf rearranged obey
 bytes-lead i r e f =
-    let r₁ : Registers = obeyed 2 8 r in
-    let r₂ : Registers = obeyed 0 8 r₁ in
-    let r₃ : Registers = obeyed 0 2 r₂ in
-    byte-leads i 2 8 (0 ∷ 8 ∷ 0 ∷ 2 ∷ 0 ∷ 6 ∷ []) r tt tt tt e f tt
-    (byte-leads (suc (suc i)) 0 8 (0 ∷ 2 ∷ 0 ∷ 6 ∷ []) r₁ tt tt tt refl refl tt
-    (byte-leads (suc (suc (suc (suc i)))) 0 2 (0 ∷ 6 ∷ []) r₂ tt tt tt refl refl tt
-    (byte-leads (suc (suc (suc (suc (suc (suc i)))))) 0 6 [] r₃ tt tt tt refl refl tt refl)))
+    byte-leads _ _ _ _ r tt tt tt e f tt
+    (byte-leads _ _ _ _ _ tt tt tt refl refl tt
+    (byte-leads _ _ _ _ _ tt tt tt refl refl tt
+    (byte-leads _ _ _ _ _ tt tt tt refl refl tt (arrived _ _ refl))))
 
 -- ---- 3, 3, 2 and the bytes, from registers with no half
 no-half-leads : (i : ℕ) (b : LineCount) (r : Registers) → r .bus ≡ b → r .half ≡ Half.Nothing → To i others r
 unfolding decode bit lacking effectOf ticksOf rearranged obey
 no-half-leads i Eight r e f =
-    eight-leads i 3 Eight (3 ∷ 2 ∷ bytes) r three-sets-eight e λ s d g.
-    eight-leads (suc i) 3 Eight (2 ∷ bytes) s three-sets-eight d λ s′ d′ g′.
-    eight-leads (suc (suc i)) 2 Four bytes s′ two-sets-four d′ (bytes-lead (suc (suc (suc i))))
+    eight-leads i _ Eight _ r three-sets-eight e λ s d g.
+    eight-leads (suc i) _ Eight _ s three-sets-eight d λ s′ d′ g′.
+    eight-leads (suc (suc i)) _ Four _ s′ two-sets-four d′ (bytes-lead (suc (suc (suc i))))
 no-half-leads i Four r e f =
-    byte-leads i 3 3 (2 ∷ bytes) r tt tt tt e f tt
-    (eight-leads (suc (suc i)) 2 Four bytes (obeyed 3 3 r) two-sets-four refl (bytes-lead (suc (suc (suc i)))))
+    byte-leads i _ _ _ r tt tt tt e f tt
+    (eight-leads (suc (suc i)) _ Four _ _ two-sets-four refl (bytes-lead (suc (suc (suc i)))))
 
 -- whatever half waited, the half 3 completes no Clear
 never-clear : (u : ℕ) → T (not (eqb (u * 16 + 3) 0x01))
@@ -186,17 +188,17 @@ other-leads r e d = λ l x p.
 
 pub restart-leads : (b : LineCount) (h : Half) (r : Registers) → r .bus ≡ b → r .half ≡ h → T (halfFits b h) → Leads Allowed Restarted 0 halves r
 unfolding To halfFits isFour decode bit lacking effectOf ticksOf rearranged obey
-restart-leads Eight Half.Nothing r e f t = eight-leads 0 3 Eight others r three-sets-eight e (no-half-leads 1 Eight)
+restart-leads Eight Half.Nothing r e f t = eight-leads 0 _ Eight others r three-sets-eight e (no-half-leads 1 Eight)
 restart-leads Eight (Half.InstructionWrite u) r e f t = absurd t
 restart-leads Eight (Half.DataWrite u) r e f t = absurd t
 restart-leads Eight Half.StatusRead r e f t = absurd t
 restart-leads Eight Half.DataRead r e f t = absurd t
 restart-leads Four Half.Nothing r e f t =
-    byte-leads 0 3 3 (3 ∷ 2 ∷ bytes) r tt tt tt e f tt
-    (eight-leads 2 3 Eight (2 ∷ bytes) (obeyed 3 3 r) three-sets-eight refl λ s d g. eight-leads 3 2 Four bytes s two-sets-four d (bytes-lead 4))
+    byte-leads 0 _ _ _ r tt tt tt e f tt
+    (eight-leads 2 _ Eight _ _ three-sets-eight refl λ s d g. eight-leads 3 _ Four _ s two-sets-four d (bytes-lead 4))
 restart-leads Four (Half.InstructionWrite u) r e f t =
     let m : ℕ = obey (decode (u * 16 + 3)) (freed r) .number in
-    second-leads 0 u 3 others r (ltb→lt 3 16 tt) e f (never-clear u)
+    second-leads 0 u _ others r (ltb→lt 3 16 tt) e f (never-clear u)
     (first-allowed (eqb m 0) (eqb m 20) (eqb m 2) (eqb m 3) (answers-0-or-3 (freed r) (decode (u * 16 + 3))))
     (no-half-leads 1 (completed u r .bus) (completed u r) refl (leaves-no-half (freed r) (decode (u * 16 + 3))))
 restart-leads Four (Half.DataWrite u) r e f t = other-leads r (λ n x. data-disagrees r n x u e f) e

@@ -3,6 +3,7 @@ use Prim.Native.Nat.{ℕ, _+_, _-_, _*_, _<_, _≤_}
 use mathlib.Core.Path.{_≡_, refl, sym, ap, _∙_, subst}
 use mathlib.Core.List.{List, [], _∷_}
 use native.Mathlib.Omega.{arith}
+use lib.ListN.{length}
 use lib.Dec.{T}
 use Rattle.controller.specs.declared.Controller.{Controller}
 use Rattle.controller.specs.Part.{inRange, freshWith}
@@ -12,6 +13,7 @@ use Rattle.bus.specs.Transfer.{transferOf}
 use Rattle.bus.specs.Events.{Event, Transfer, toldBy, run, reached, saidBy, waits}
 use Rattle.bus.proofs.Range.{range-kept, fresh-in-range, reached-in-range}
 use Rattle.bus.proofs.Busy.{waits-kept, waits-lower}
+use Rattle.picture.specs.Answers.{answerFor, bufferFor}
 use Rattle.restart.specs.Writes.{halves, Write, written, Given, after, AtEach, patiently, patient, FourLines}
 use Rattle.restart.specs.Statement.{Holds, answers, freshLike, Restarts, ThirdStatement, ForEveryController}
 use Rattle.restart.proofs.Leads.{Came, leads-to}
@@ -60,7 +62,10 @@ for-every-controller c t =
       answered = λ writes g. came c t writes g .answers;
       equal = equal;
       told-alike = λ writes others g g′ later. ap (saidBy later) (equal writes others g g′);
-      shown-alike = λ writes others g g′ later Picture picture. ap (λ (x : Controller). picture (run later x)) (equal writes others g g′);
+      shown-alike = λ writes others g g′ later digits rom phase out. record {
+        answer = ap (λ (x : Controller). answerFor (run later x) digits (length rom) (length out)) (equal writes others g g′);
+        buffer = ap (λ (x : Controller). bufferFor (run later x) digits rom phase out) (equal writes others g g′);
+      };
     }
 
 pub third-statement : ThirdStatement

@@ -1,0 +1,5 @@
+pub mod Lists
+pub mod Marks
+pub mod Dots
+pub mod Promise
+pub mod Theorems

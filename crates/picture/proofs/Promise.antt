@@ -1,0 +1,56 @@
+-- Laws of the promise: what the tests of a call tell, and what each answer leaves.
+use Prim.Native.Nat.{ℕ, _<_, _≤_}
+use mathlib.Core.Path.{_≡_, sym, _∙_}
+use mathlib.Core.Bool.{true, false}
+use mathlib.Core.List.{List, _++_}
+use native.Mathlib.Omega.{arith}
+use lib.Dec.{T, leb, eqb, leb→le}
+use lib.ListN.{length, drop}
+use Rattle.place.specs.declared.LineMode.{LineMode}
+use Rattle.place.specs.declared.LineMode.the-variants.{One, Two}
+use Rattle.place.specs.declared.shift.Shift.{Shift}
+use Rattle.place.specs.Counter.{hasCounter}
+use Rattle.place.specs.Shift.{lastShift, hasShift}
+use Rattle.place.proofs.Tests.{holds, and-left, and-right}
+use Rattle.controller.specs.declared.Controller.{Controller}
+use Rattle.controller.specs.declared.registers.Registers.{Registers}
+use Rattle.controller.specs.Part.{inRange}
+use Rattle.picture.specs.declared.Answer.{Answer}
+use Rattle.picture.specs.declared.Answer.the-variants.{Done}
+use Rattle.picture.specs.declared.Phase.{Phase}
+use Rattle.picture.specs.Digit.{mostDigits}
+use Rattle.picture.specs.Table.{over}
+use Rattle.picture.specs.Picture.{Asked, bytesOf, pictureOf}
+use Rattle.picture.proofs.Dots.{length-picture}
+use Rattle.picture.specs.Answers.{numberOf, hasDigits, answerFor, bufferFor, Pictured}
+
+-- ---- what the tests tell
+shift-small : (lines : LineMode) (s : Shift) → T (hasShift lines s) → s .0 < mostDigits lines
+unfolding hasShift lastShift mostDigits
+shift-small One s t = omega (arith, leb→le (s .0) 79 t)
+shift-small Two s t = omega (arith, leb→le (s .0) 39 t)
+
+shift-in-range : (r : Registers) → inRange r ≡ true → r .shift .0 < mostDigits (r .mode .lines)
+unfolding inRange
+shift-in-range r h =
+    shift-small (r .mode .lines) (r .shift)
+    (and-left (hasShift (r .mode .lines) (r .shift)) _ (and-right (hasCounter (r .mode .lines) (r .counter)) _ (holds _ h)))
+
+digits-counted : (lines : LineMode) (digits : ℕ) → hasDigits lines digits ≡ true → digits ≤ mostDigits lines
+unfolding hasDigits
+digits-counted lines digits h = leb→le digits (mostDigits lines) (and-right (leb 1 digits) _ (holds _ h))
+
+pub asked : (c : Controller) (digits romLength : ℕ) → inRange (c .registers) ≡ true → hasDigits (c .registers .mode .lines) digits ≡ true → romLength ≡ 4096 → Asked c digits romLength
+asked c digits romLength r d i = record { shifted = shift-in-range (c .registers) r; counted = digits-counted _ digits d; image = i }
+
+-- ---- what each answer leaves
+module _ (c : Controller) (digits : ℕ) (rom : List ℕ) (phase : Phase) (out : List ℕ) where
+  pub refused : (r : Answer) → numberOf r ≡ answerFor c digits (length rom) (length out) → eqb (numberOf r) 0 ≡ false → Pictured c digits rom phase out r out
+  unfolding bufferFor
+  refused r e z = record { number = e; buffer = simp (sym e, z) }
+
+  pub drawn : (bytes : ℕ) (new left : List ℕ) → answerFor c digits (length rom) (length out) ≡ 0 → bytes ≡ bytesOf (c .registers .mode) digits
+      → new ≡ pictureOf c digits rom phase → left ≡ new ++ drop bytes out → Pictured c digits rom phase out Done left
+  unfolding bufferFor over
+  drawn bytes new left e b n l =
+      record { number = sym e; buffer = simp (e, length-picture c digits rom phase, sym b) (l ∙ rw n) }

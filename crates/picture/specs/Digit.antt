@@ -1,0 +1,22 @@
+-- "The picture": the cell that a digit shows.
+use Prim.Native.Nat.{ℕ, _+_, _*_, _%_}
+use Rattle.place.specs.declared.LineMode.{LineMode}
+use Rattle.place.specs.declared.LineMode.the-variants.{One, Two}
+use Rattle.place.specs.declared.address.Cell.{Cell}
+use Rattle.place.specs.declared.shift.Shift.{Shift}
+use Rattle.place.specs.Address.{cell}
+
+-- N = 0 is one line
+unfoldable pub linesOf : LineMode → ℕ
+linesOf One = 1
+linesOf Two = 2
+
+-- up to 80 digits with one line, up to 40 on each of two
+unfoldable pub mostDigits : LineMode → ℕ
+mostDigits One = 80
+mostDigits Two = 40
+
+-- digit d (from 0) shows cell (d + shift) mod 80 with one line, and on line m cell 40m + (d + shift) mod 40 with two
+unfoldable pub shownOn : LineMode → Shift → (m d : ℕ) → Cell
+shownOn One s m d = cell ((d + s .0) % 80)
+shownOn Two s m d = cell (40 * m + (d + s .0) % 40)

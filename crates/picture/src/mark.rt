@@ -1,0 +1,71 @@
+// Cursor and blink: the digit that they mark on a line, and the rows in which they set it.
+ghost use mathlib.Core.Path.{_≡_};
+ghost use mathlib.Core.Bool.{_&&_};
+ghost use Prim.Native.Nat.{ℕ, _≤_, _<_};
+ghost use lib.Dec.{eqb};
+ghost use Rattle.place.specs.Address.{addressOf};
+ghost use Rattle.picture.specs.Digit.{linesOf, mostDigits, shownOn};
+ghost use Rattle.picture.specs.Picture.{isDark, isMarked, isSet};
+use super::Phase;
+use super::digit::shown;
+use controller::registers::Registers;
+use place::LineMode;
+use place::shift::Shift;
+
+// The digit whose display address equals the counter, any number past the line where there is none;
+// whether the cursor sets its last row, and whether blink sets all its rows.
+pub struct Mark {
+    pub digit: usize,
+    pub cursor: bool,
+    pub blink: bool,
+}
+
+fn is_dark(phase: Phase) -> bool
+    ensures { λ r. ⌜ r ≡ isDark phase ⌝ }
+{
+    match phase {
+        Phase::Plain => false,
+        Phase::Dark => true,
+    }
+}
+
+// The digit of a line that has this display address; where none has, the digit count.
+fn digit_at(lines: LineMode, shift: Shift, line: u8, digits: u8, address: u8) -> u8
+    requires { ⌜ (shift .0 < mostDigits lines) × (line < linesOf lines) × (digits ≤ mostDigits lines) ⌝ }
+    ensures { λ r. ⌜ ((d : ℕ) → d < digits → eqb d r ≡ eqb (addressOf lines (shownOn lines shift line d) .0) address) ⌝ }
+{
+    let mut digit = 0;
+    while digit < digits {
+        let here = shown(lines, shift, line, digit).address(lines);
+        if here.0 == address {
+            return digit;
+        }
+        digit += 1;
+    }
+    digit
+}
+
+impl Mark {
+    pub fn new(registers: Registers, phase: Phase, line: u8, digits: u8) -> Mark
+        requires { ⌜ (registers .shift .0 < mostDigits (registers .mode .lines)) × (line < linesOf (registers .mode .lines)) × (digits ≤ mostDigits (registers .mode .lines)) ⌝ }
+        ensures { λ r. ⌜ (r .cursor ≡ registers .lights .cursor) × (r .blink ≡ registers .lights .blink && isDark phase) × ((d : ℕ) → d < digits → eqb d (r .digit) ≡ isMarked registers (shownOn (registers .mode .lines) (registers .shift) line d)) ⌝ }
+    {
+        let mode = registers.mode;
+        let lines = mode.lines;
+        let shift = registers.shift;
+        let counter = registers.counter;
+        let lights = registers.lights;
+        Mark {
+            digit: digit_at(lines, shift, line, digits, counter.number()) as usize,
+            cursor: lights.cursor,
+            blink: lights.blink & is_dark(phase),
+        }
+    }
+
+    pub fn sets(self, rows: usize, row: usize) -> bool
+        requires { ⌜ row < rows ⌝ }
+        ensures { λ r. ⌜ r ≡ isSet (self .cursor) (self .blink) rows row ⌝ }
+    {
+        (self.cursor & (row == rows - 1)) | self.blink
+    }
+}

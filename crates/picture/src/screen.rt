@@ -1,0 +1,52 @@
+// The whole picture: its lines, one behind the other, or all zeros.
+ghost use mathlib.Core.Path.{_≡_};
+ghost use mathlib.Core.Bool.{true};
+ghost use lib.ListN.{length, replicate};
+ghost use Rattle.picture.specs.Picture.{Asked, bytesOf, pictureOf};
+use super::Phase;
+use super::line::draw_line;
+use super::size::line_count;
+use super::size::row_count;
+use controller::Controller;
+
+fn draw_lines(controller: Controller, digits: u8, rom: &[u8], phase: Phase, out: &mut [u8])
+    requires { ⌜ (Asked controller digits (length (now rom))) × (controller .registers .lights .display ≡ true) × (length (now out) ≡ bytesOf (controller .registers .mode) digits) ⌝ }
+    ensures { λ _. ⌜ now (out .exit) ≡ pictureOf controller digits (now (rom .entry)) phase ⌝ }
+{
+    let registers = controller.registers;
+    let mode = registers.mode;
+    let lines = mode.lines;
+    let count = line_count(lines);
+    let bytes = row_count(mode) * digits as usize;
+    let mut line = 0;
+    let mut at = 0;
+    while line < count {
+        let end = at + bytes;
+        draw_line(controller, digits, rom, phase, line, &mut out[at..end]);
+        at = end;
+        line += 1;
+    }
+}
+
+fn blank(out: &mut [u8])
+    ensures { λ _. ⌜ now (out .exit) ≡ replicate (length (now (out .entry))) 0 ⌝ }
+{
+    let mut at = 0;
+    while at < out.len() {
+        out[at] = 0;
+        at += 1;
+    }
+}
+
+pub fn draw(controller: Controller, digits: u8, rom: &[u8], phase: Phase, out: &mut [u8])
+    requires { ⌜ (Asked controller digits (length (now rom))) × (length (now out) ≡ bytesOf (controller .registers .mode) digits) ⌝ }
+    ensures { λ _. ⌜ now (out .exit) ≡ pictureOf controller digits (now (rom .entry)) phase ⌝ }
+{
+    let registers = controller.registers;
+    let lights = registers.lights;
+    if lights.display {
+        draw_lines(controller, digits, rom, phase, out);
+    } else {
+        blank(out);
+    }
+}
