@@ -1,0 +1,48 @@
+-- The reader of a record gives back what was written. Assumes nothing.
+use Prim.Native.Nat.{ℕ}
+use mathlib.Core.List.{List}
+use mathlib.Core.Path.{_≡_, refl, sym, ap, subst, _∙_}
+use borrow.Author.Tests.{eq-eqb, ne-eqb}
+use lib.ListN.{length}
+use denote.Ref.{RefT, now}
+use Rattle.record.proofs.ReadBack.{reads-back}
+use Rattle.record.proofs.Standing.{stands-end}
+use Rattle.record.proofs.Unique.{event-at-settled}
+use Rattle.record.specs.declared.places.Step.{Step}
+use Rattle.record.specs.declared.places.Step.the-variants.{End}
+use Rattle.record.specs.Record.{checkOf}
+use Rattle.record.specs.Place.{nextOf}
+use Rattle.record.specs.Written.{Read, no-more as read-all, then as and-then}
+use Rattle.reader.specs.declared.Reader.{Reader}
+use Rattle.reader.specs.Theorems.{Gives, no-more, then, ReaderGivesBack, RefusedGivesNone}
+use Rattle.reader.proofs.Unique.{same-reader}
+
+-- what a reader gives is read in turn from its place on
+in-turn : {reader : Reader} {answers : List Step} → Gives reader answers → Read (now (reader .bytes)) (reader .place) answers
+in-turn no-more = read-all
+in-turn {reader} (then {after = after} {r = r} {answers = answers} p rest) =
+    let held : Read (now (reader .bytes)) (after .place) answers = subst (λ (b : RefT (List ℕ)). Read (now b) (after .place) answers) (p .held) (in-turn rest) in
+    and-then (p .stands) (subst (λ (n : ℕ). Read (now (reader .bytes)) n answers) (p .moved ∙ sym (p .stands .next)) held)
+
+-- and what is read in turn, a reader gives
+in-calls : (held : RefT (List ℕ)) {place : ℕ} {answers : List Step} → Read (now held) place answers → Gives (record { bytes = held; place = place }) answers
+in-calls held read-all = no-more
+in-calls held (and-then {place = place} {r = r} stands rest) =
+    then {after = record { bytes = held; place = nextOf r place }} record { stands = stands; held = refl; moved = stands .next } (in-calls held rest)
+
+pub reader-gives-back : ReaderGivesBack
+reader-gives-back bytes r events w p =
+    let zero : checkOf (now bytes) ≡ 0 = reads-back .sound w in
+    let start : r .reader .place ≡ 3 = p .start ∙ simp (eq-eqb _ _ zero) in
+    record {
+      sound = p .number ∙ zero;
+      gives = in-calls (r .reader .bytes) (rw (p .held, start) (reads-back .gives w));
+      gives-no-other = λ answers g size. reads-back .gives-no-other w (rw (p .held, start) at (in-turn g)) size;
+    }
+
+pub refused-gives-none : RefusedGivesNone
+refused-gives-none bytes r step after refused p q =
+    let held = r .reader .bytes in
+    let start : r .reader .place ≡ length (now bytes) = p .start ∙ simp (ne-eqb _ _ refused) in
+    let end = stands-end (now held) (r .reader .place) (start ∙ ap (λ (b : RefT (List ℕ)). length (now b)) (sym (p .held))) in
+    (event-at-settled (now held) (r .reader .place) step End (q .stands) end, same-reader after (r .reader) (q .held) (q .moved ∙ sym (end .next)))

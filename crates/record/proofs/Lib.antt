@@ -1,0 +1,9 @@
+pub mod Meanings
+pub mod Encoded
+pub mod Runs
+pub mod Sound
+pub mod Standing
+pub mod Stored
+pub mod Framed
+pub mod Unique
+pub mod ReadBack

@@ -1,0 +1,9 @@
+pub mod Event
+pub mod Record
+pub mod Place
+pub mod Buffer
+pub mod Append
+pub mod Empty
+pub mod Settled
+pub mod Written
+pub mod Theorems
