@@ -1,10 +1,12 @@
 -- "Refusal numbers": one transfer and one wait, with the refusals in their order: 16 first, then the lower number.
 use Prim.Native.Nat.{ℕ}
 use mathlib.Core.Bool.{Bool, true, false, cond, _&&_, not}
+use mathlib.Core.List.{List}
 use lib.Dec.{eqb}
 use Rattle.controller.specs.declared.Controller.{Controller}
 use Rattle.bus.specs.declared.Outcome.{Outcome}
 use Rattle.bus.specs.declared.kind.Kind.{Kind}
+use Rattle.bus.specs.declared.turn.Turned.{Turned}
 use Rattle.controller.specs.declared.change.Change.{Change}
 use Rattle.controller.specs.declared.registers.Registers.{Registers}
 use Rattle.controller.specs.Answers.{numberOf, valueOf}
@@ -37,6 +39,13 @@ pub record Told : Type 0 where
 
 abbrev pub told : Outcome → Told
 told o = record { number = numberOf (o .answer); value = valueOf (o .answer); controller = o .controller }
+
+-- a controller of these two memories and registers, and what is told of a turn that left these
+abbrev pub with : (display character : List ℕ) → Registers → Controller
+with d m r = record { display = d; character = m; registers = r }
+
+abbrev pub toldWith : (display character : List ℕ) → Turned → Told
+toldWith d m t = record { number = numberOf (t .answer); value = valueOf (t .answer); controller = with d m (t .registers) }
 
 abbrev pub addressed : Controller → ℕ
 addressed c = byteAt (c .registers .mode .lines) (c .registers .counter) (c .display) (c .character)

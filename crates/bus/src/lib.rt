@@ -6,6 +6,7 @@ mod data;
 pub mod kind;
 pub mod memory;
 pub mod step;
+pub mod turn;
 
 use controller::Controller;
 use controller::answer::Answer;
@@ -29,12 +30,9 @@ pub fn transfer(controller: Controller, kind: Kind, value: u8) -> Outcome
     }
     let mut display = controller.display;
     let mut character = controller.character;
-    let byte = memory::addressed(&display, &character, registers);
-    let effect = step::step(registers, kind, value, byte);
-    let change = effect.change;
-    memory::apply(&mut display, &mut character, change);
-    let after = effect.registers;
-    let answer = effect.answer;
+    let turned = turn::turn(&mut display, &mut character, registers, kind, value);
+    let after = turned.registers;
+    let answer = turned.answer;
     Outcome {
         controller: Controller {
             display,

@@ -1,16 +1,16 @@
 -- Laws of the dots: rows with a mark, and the definition's rows from the codes and the marked digit that the code holds.
 use Prim.Native.Nat.{ℕ, _*_, _%_, _<_}
-use mathlib.Core.Path.{_≡_, refl, ap, sym, _∙_}
+use mathlib.Core.Path.{_≡_, refl, _∙_}
 use mathlib.Core.Bool.{Bool, true, false, cond, _&&_}
 use mathlib.Core.List.{List}
 use native.Mathlib.Nat.{mul-assoc}
 use lib.Dec.{eqb}
 use lib.ListN.{length, getD, set, replicate}
-use Rattle.picture.specs.Table.{table, parts}
 use Rattle.controller.specs.declared.Controller.{Controller}
 use Rattle.picture.specs.declared.Phase.{Phase}
 use Rattle.picture.specs.declared.mark.Mark.{Mark}
-use Rattle.picture.specs.Digit.{linesOf, shownOn}
+use Rattle.picture.specs.Table.{table, parts}
+use Rattle.picture.specs.Digit.{shownOn}
 use Rattle.picture.specs.Picture.{isDark, rowsOf, bytesOf, patternOf, isMarked, isSet, fiveOf, cellDots, dotsAt, pictureOf}
 use Rattle.picture.proofs.Lists.{length-parts, length-table, parts-same, parts-replicate, table-same, table-set, table-replicate}
 
@@ -50,10 +50,10 @@ unfolding pictureOf
 length-picture c digits rom phase =
     length-parts _ _ _ (λ line. length-parts _ digits _ (λ row. length-table digits _)) ∙ rw mul-assoc
 
-pub dark-dots : (c : Controller) (digits : ℕ) (rom : List ℕ) (phase : Phase) → c .registers .lights .display ≡ false
+pub off-dots : (c : Controller) (digits : ℕ) (rom : List ℕ) (phase : Phase) → c .registers .lights .display ≡ false
     → pictureOf c digits rom phase ≡ replicate (bytesOf (c .registers .mode) digits) 0
 unfolding pictureOf dotsAt cellDots
-dark-dots c digits rom phase off =
+off-dots c digits rom phase off =
     let rows = rowsOf (c .registers .mode) in
     parts-same _ _ (λ line. replicate (rows * digits) 0) (λ line _.
     parts-same rows _ (λ row. replicate digits 0) (λ row _. table-same digits _ (λ d. 0) (λ d _. simp off) ∙ table-replicate digits 0)

@@ -1,7 +1,7 @@
 -- Laws of lists made in order, part by part and value by value.
 use Prim.Native.Nat.{ℕ, zero, suc, _+_, _*_, _-_, _<_, _≤_}
 use mathlib.Core.Path.{_≡_, refl, ap, sym, _∙_}
-use mathlib.Core.Bool.{Bool, true, false, cond}
+use mathlib.Core.Bool.{cond}
 use mathlib.Core.List.{List, [], _∷_, _++_, append-assoc, append-nil}
 use mathlib.Core.Logic.{⊎-elim}
 use native.Mathlib.Nat.{zero-mul, suc-mul, mul-one, add-zero, add-sub-cancel-left, not-suc-le-zero, le-of-suc-le-suc, eq-or-lt-of-le}

@@ -9,7 +9,7 @@ use Rattle.place.specs.declared.LineMode.{LineMode}
 use Rattle.place.specs.declared.LineMode.the-variants.{One, Two}
 use Rattle.place.specs.declared.address.Cell.{Cell}
 use Rattle.place.specs.declared.shift.Shift.{Shift}
-use Rattle.place.specs.Address.{display, cell, cellOf, addressOf}
+use Rattle.place.specs.Address.{display, cellOf, addressOf}
 use Rattle.place.proofs.Laws.{cell-of-address-of}
 use Rattle.picture.specs.Digit.{linesOf, mostDigits, shownOn}
 

@@ -15,14 +15,15 @@ use Rattle.place.proofs.Tests.{holds, and-left, and-right}
 use Rattle.controller.specs.declared.Controller.{Controller}
 use Rattle.controller.specs.declared.registers.Registers.{Registers}
 use Rattle.controller.specs.Part.{inRange}
+use Rattle.controller.proofs.Ranged.{facts}
 use Rattle.picture.specs.declared.Answer.{Answer}
 use Rattle.picture.specs.declared.Answer.the-variants.{Done}
 use Rattle.picture.specs.declared.Phase.{Phase}
 use Rattle.picture.specs.Digit.{mostDigits}
 use Rattle.picture.specs.Table.{over}
-use Rattle.picture.specs.Picture.{Asked, bytesOf, pictureOf}
+use Rattle.picture.specs.Picture.{bytesOf, pictureOf}
+use Rattle.picture.specs.Answers.{Asked, numberOf, hasDigits, answerFor, bufferFor, Pictured}
 use Rattle.picture.proofs.Dots.{length-picture}
-use Rattle.picture.specs.Answers.{numberOf, hasDigits, answerFor, bufferFor, Pictured}
 
 -- ---- what the tests tell
 shift-small : (lines : LineMode) (s : Shift) → T (hasShift lines s) → s .0 < mostDigits lines
@@ -31,10 +32,7 @@ shift-small One s t = omega (arith, leb→le (s .0) 79 t)
 shift-small Two s t = omega (arith, leb→le (s .0) 39 t)
 
 shift-in-range : (r : Registers) → inRange r ≡ true → r .shift .0 < mostDigits (r .mode .lines)
-unfolding inRange
-shift-in-range r h =
-    shift-small (r .mode .lines) (r .shift)
-    (and-left (hasShift (r .mode .lines) (r .shift)) _ (and-right (hasCounter (r .mode .lines) (r .counter)) _ (holds _ h)))
+shift-in-range r h = shift-small (r .mode .lines) (r .shift) (facts r (holds (inRange r) h) .shift)
 
 digits-counted : (lines : LineMode) (digits : ℕ) → hasDigits lines digits ≡ true → digits ≤ mostDigits lines
 unfolding hasDigits

@@ -1,24 +1,22 @@
 -- The claims about the picture, proved.
 use Prim.Native.Nat.{ℕ, zero, suc, _+_, _*_, _-_, _<_, _≤_}
 use mathlib.Core.Path.{_≡_, refl, ap, sym, _∙_}
-use mathlib.Core.Bool.{Bool, true, false, cond, _&&_}
+use mathlib.Core.Bool.{Bool, true, false, cond}
 use mathlib.Core.List.{List, [], _∷_, _++_}
 use native.Mathlib.Nat.{mul-assoc, add-mul, add-assoc}
 use native.Mathlib.Omega.{arith}
 use lib.Arith.{digits-lt}
-use lib.Dec.{eqb, ltb, T, ltb→lt}
+use lib.Dec.{eqb, ltb, ltb→lt}
 use lib.ListN.{length, drop, getD, length-append, length-drop, List·getD-append}
 use lib.Seq.{getD-drop, getD-append-add, getD-set-other}
 use borrow.Author.Tests.{ne-eqb, leb-true}
-use Rattle.place.specs.declared.LineMode.{LineMode}
-use Rattle.place.specs.declared.LineMode.the-variants.{One, Two}
+use Rattle.place.specs.declared.LineMode.the-variants.{Two}
 use Rattle.place.specs.declared.address.Cell.{Cell}
 use Rattle.place.specs.Address.{addressOf}
 use Rattle.place.specs.Counter.{numberOn}
-use Rattle.place.proofs.Tests.{split, is-false}
+use Rattle.place.proofs.Tests.{split}
 use Rattle.controller.specs.declared.Controller.{Controller}
 use Rattle.controller.specs.declared.registers.Mode.{Mode}
-use Rattle.controller.specs.declared.registers.Registers.{Registers}
 use Rattle.controller.specs.Part.{inRange}
 use Rattle.picture.specs.declared.Answer.{Answer}
 use Rattle.picture.specs.declared.Answer.the-variants.{Done, Digits, Rom, Short, NotInRange}
@@ -29,7 +27,7 @@ use Rattle.picture.specs.Picture.{rowsOf, bytesOf, isMarked, fiveOf, cel
 use Rattle.picture.specs.Answers.{numberOf, hasDigits, answerFor, bufferFor, Pictured}
 use Rattle.picture.specs.Claims.{OneOutcome, ByteByByte, RestStays, SameScreen, OnlyTheScreenMatters, DisplayOffIsZeros, FiveBitsOnly, written, OnlyShownCellsMatter, GapMarksNothing}
 use Rattle.picture.proofs.Lists.{length-parts, length-table, parts-same, parts-at, table-same, table-at}
-use Rattle.picture.proofs.Dots.{length-picture, dark-dots}
+use Rattle.picture.proofs.Dots.{length-picture, off-dots}
 
 -- ---- the promise settles the answer and every byte of the buffer
 answerOf : ℕ → Answer
@@ -135,7 +133,7 @@ only-shown-cells-matter c digits rom phase cell byte unseen =
 
 -- ---- the dots
 pub display-off-is-zeros : DisplayOffIsZeros
-display-off-is-zeros = dark-dots
+display-off-is-zeros = off-dots
 
 Small : List ℕ → Type 0
 Small l = (k : ℕ) → getD l k 0 < 0x20

@@ -1,5 +1,5 @@
 -- "Refusal numbers": this paper's number for each answer to a picture, and what a call leaves.
-use Prim.Native.Nat.{ℕ}
+use Prim.Native.Nat.{ℕ, _<_, _≤_}
 use mathlib.Core.Path.{_≡_}
 use mathlib.Core.Bool.{Bool, cond, _&&_}
 use mathlib.Core.List.{List}
@@ -45,3 +45,9 @@ bufferFor c digits rom phase out =
 pub record Pictured (c : Controller) (digits : ℕ) (rom : List ℕ) (phase : Phase) (out : List ℕ) (answer : Answer) (left : List ℕ) : Type 0 where
   pub number : numberOf answer ≡ answerFor c digits (length rom) (length out)
   pub buffer : left ≡ bufferFor c digits rom phase out
+
+-- what the first three tests tell of a call that is not refused
+pub record Asked (c : Controller) (digits romLength : ℕ) : Type 0 where
+  pub shifted : c .registers .shift .0 < mostDigits (c .registers .mode .lines)
+  pub counted : digits ≤ mostDigits (c .registers .mode .lines)
+  pub image : romLength ≡ 4096

@@ -1,6 +1,5 @@
 -- "The picture": one byte a digit and row.
-use Prim.Native.Nat.{ℕ, _+_, _*_, _/_, _%_, _-_, _<_, _≤_}
-use mathlib.Core.Path.{_≡_}
+use Prim.Native.Nat.{ℕ, _+_, _*_, _/_, _%_, _-_}
 use mathlib.Core.Bool.{Bool, true, false, cond, _&&_, _||_}
 use mathlib.Core.List.{List}
 use lib.Dec.{ltb, eqb}
@@ -15,7 +14,7 @@ use Rattle.controller.specs.declared.registers.Mode.{Mode}
 use Rattle.controller.specs.declared.registers.Registers.{Registers}
 use Rattle.picture.specs.declared.Phase.{Phase}
 use Rattle.picture.specs.declared.Phase.the-variants.{Plain, Dark}
-use Rattle.picture.specs.Digit.{linesOf, mostDigits, shownOn}
+use Rattle.picture.specs.Digit.{linesOf, shownOn}
 use Rattle.picture.specs.Table.{table, parts}
 
 -- the blink phase, dark or plain
@@ -35,11 +34,11 @@ rowsOf mode = rowsIn (mode .lines) (mode .tall)
 abbrev pub bytesOf : Mode → ℕ → ℕ
 bytesOf mode digits = linesOf (mode .lines) * rowsOf mode * digits
 
--- codes 10 to FF hex take ROM byte 16 x code + row; codes 00 to 0F take character memory
--- at 8 x (code mod 8) + row with 8 rows, at 16 x ((code / 2) mod 4) + row with 11
+-- codes 00 to 0F take character memory: at 8 x (code mod 8) + row with 8 rows; at 16 x ((code / 2) mod 4) + row with 11
 unfoldable pub characterAt : (rows code row : ℕ) → ℕ
 characterAt rows code row = cond (eqb rows 8) (8 * (code % 8) + row) (16 * (code / 2 % 4) + row)
 
+-- codes 10 to FF hex take ROM byte 16 x code + row
 unfoldable pub patternOf : (character rom : List ℕ) (rows code row : ℕ) → ℕ
 patternOf character rom rows code row =
     cond (ltb code 0x10) (getD character (characterAt rows code row) 0) (getD rom (16 * code + row) 0)
@@ -48,11 +47,12 @@ patternOf character rom rows code row =
 unfoldable pub isMarked : Registers → Cell → Bool
 isMarked r cell = eqb (addressOf (r .mode .lines) cell .0) (numberOn (r .counter))
 
--- the cursor, where on, sets all five dots of the last row of that digit; blink in the dark phase sets every dot of it
+-- the cursor, where on, sets all five dots of the last row of that digit
+-- blink in the dark phase sets every dot of that digit
 unfoldable pub isSet : (cursor blink : Bool) (rows row : ℕ) → Bool
 isSet cursor blink rows row = (cursor && eqb row (rows - 1)) || blink
 
--- the low five bits of the pattern, or all five dots
+-- low five bits, leftmost dot is bit 4: the pattern's, or all five
 unfoldable pub fiveOf : (set : Bool) (pattern : ℕ) → ℕ
 fiveOf set pattern = cond set 0x1F (pattern % 0x20)
 
@@ -74,9 +74,3 @@ dotsAt c rom phase line row digit =
 unfoldable pub pictureOf : Controller → (digits : ℕ) (rom : List ℕ) → Phase → List ℕ
 pictureOf c digits rom phase =
     parts (linesOf (c .registers .mode .lines)) (λ line. parts (rowsOf (c .registers .mode)) (λ row. table digits (dotsAt c rom phase line row)))
-
--- what is known of a call that is not refused
-pub record Asked (c : Controller) (digits romLength : ℕ) : Type 0 where
-  pub shifted : c .registers .shift .0 < mostDigits (c .registers .mode .lines)
-  pub counted : digits ≤ mostDigits (c .registers .mode .lines)
-  pub image : romLength ≡ 4096

@@ -24,6 +24,7 @@ pub enum Answer {
     NotInRange,
 }
 
+// Writes lines x rows x digits bytes in the order line, row, digit; a refusal writes none.
 pub fn picture(
     controller: Controller,
     digits: u8,

@@ -6,7 +6,8 @@ ghost use lib.Dec.{eqb};
 ghost use lib.ListN.{length, getD};
 ghost use Rattle.picture.specs.Digit.{linesOf, mostDigits, shownOn};
 ghost use Rattle.picture.specs.Table.{table, parts};
-ghost use Rattle.picture.specs.Picture.{Asked, rowsOf, patternOf, isSet, fiveOf, dotsAt};
+ghost use Rattle.picture.specs.Picture.{rowsOf, patternOf, isSet, fiveOf, dotsAt};
+ghost use Rattle.picture.specs.Answers.{Asked};
 use super::Phase;
 use super::digit::shown;
 use super::mark::Mark;
@@ -16,6 +17,7 @@ use controller::Controller;
 use place::LineMode;
 use place::shift::Shift;
 
+// The code that each digit shows; behind the last digit, nothing of meaning.
 fn line_codes(display: &[u8; 80], lines: LineMode, shift: Shift, line: u8, digits: u8) -> [u8; 80]
     requires { ⌜ (shift .0 < mostDigits lines) × (line < linesOf lines) × (digits ≤ mostDigits lines) ⌝ }
     ensures { λ r. ⌜ ((d : ℕ) → d < digits → getD r d 0 ≡ getD (now (display .entry)) (shownOn lines shift line d .0) 0) ⌝ }

@@ -1,4 +1,4 @@
-// One row of a line.
+// One row of a line: the patterns of its digits, then the mark.
 ghost use mathlib.Core.Path.{_≡_};
 ghost use mathlib.Core.Bool.{_&&_};
 ghost use Prim.Native.Nat.{_%_, _≤_, _<_};

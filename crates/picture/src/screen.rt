@@ -2,7 +2,8 @@
 ghost use mathlib.Core.Path.{_≡_};
 ghost use mathlib.Core.Bool.{true};
 ghost use lib.ListN.{length, replicate};
-ghost use Rattle.picture.specs.Picture.{Asked, bytesOf, pictureOf};
+ghost use Rattle.picture.specs.Picture.{bytesOf, pictureOf};
+ghost use Rattle.picture.specs.Answers.{Asked};
 use super::Phase;
 use super::line::draw_line;
 use super::size::line_count;

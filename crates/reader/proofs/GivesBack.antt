@@ -1,4 +1,4 @@
--- The reader of a record gives back what was written. Assumes nothing.
+-- The reader of a record gives back what was written.
 use Prim.Native.Nat.{ℕ}
 use mathlib.Core.List.{List}
 use mathlib.Core.Path.{_≡_, refl, sym, ap, subst, _∙_}

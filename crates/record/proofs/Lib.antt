@@ -7,3 +7,4 @@ pub mod Stored
 pub mod Framed
 pub mod Unique
 pub mod ReadBack
+pub mod InTurn

@@ -1,4 +1,4 @@
--- Lent buffers: what a call leaves in one. Assumes nothing.
+-- Lent buffers: what a call leaves in one.
 use Prim.Native.Nat.{ℕ}
 use mathlib.Core.Bool.{cond}
 use mathlib.Core.List.{List, _++_}

@@ -1,7 +1,7 @@
-use borrow.Author.Needs.{needs}
-use Rattle.picture.specs.Digit.{linesOf, mostDigits, shownOn}
 use Prim.Native.Nat.{_<_}
 use native.Mathlib.Omega.{arith}
+use borrow.Author.Needs.{needs}
+use Rattle.picture.specs.Digit.{linesOf, mostDigits, shownOn}
 use Rattle.picture.proofs.digit.shown.Statement.{statement}
 use Rattle.picture.proofs.digit.shown.Tie as tie
 

@@ -1,13 +1,12 @@
-use Prim.Native.Nat.{ℕ, _+_, _*_, _-_, _≤_, _<_}
-use mathlib.Core.Path.{_≡_, refl, ap, _∙_}
+use Prim.Native.Nat.{_+_, _-_, _≤_}
+use mathlib.Core.Path.{refl}
 use mathlib.Core.Bool.{_&&_}
-use mathlib.Core.List.{List}
 use native.Mathlib.Nat.{suc-mul, mul-le-mul-right, le-antisymm}
+use native.Mathlib.Omega.{arith}
 use lib.Dec.{eqb}
-use lib.ListN.{length, take, drop, getD, length-take, length-drop}
+use lib.ListN.{length, getD, length-take, length-drop}
 use denote.Ref.{now}
 use borrow.Author.Needs.{needs}
-use native.Mathlib.Omega.{arith}
 use Rattle.picture.specs.Table.{table}
 use Rattle.picture.specs.Picture.{patternOf, isSet, fiveOf}
 use Rattle.picture.proofs.Lists.{length-table, length-lent, Taken, taken-start, taken-next, taken-whole}
@@ -15,7 +14,9 @@ use Rattle.picture.proofs.line.draw_rows.Statement.{statement}
 use Rattle.picture.proofs.line.draw_rows.Tie as tie
 
 abbrev Inv-loop : tie.InvT-loop
-Inv-loop codes character rom mark rows digits out₀ row₀ at₀ out row at = (row ≤ rows) × (Taken (λ q. table digits (λ d. fiveOf (eqb d (mark .digit) && isSet (mark .cursor) (mark .blink) rows q) (patternOf character rom rows (getD codes d 0) q))) digits out₀ out row at)
+Inv-loop codes character rom mark rows digits out₀ row₀ at₀ out row at =
+    (row ≤ rows)
+    × Taken (λ q. table digits (λ d. fiveOf (eqb d (mark .digit) && isSet (mark .cursor) (mark .blink) rows q) (patternOf character rom rows (getD codes d 0) q))) digits out₀ out row at
 
 abbrev μ-loop : tie.MeasureT-loop
 μ-loop codes character rom mark rows digits out₀ row₀ at₀ out row at = rows - row
@@ -54,18 +55,21 @@ loop-less : tie.Need-loop-less Inv-loop μ-loop
 loop-less c = search needs
 
 loop-again : tie.Need-loop-again Inv-loop μ-loop
-loop-again c = let at-call = c .before .before in
+loop-again c =
+    let at-call = c .before .before in
     let in-loop = at-call .before .before in
     let at-loop = in-loop .before in
-    let digits = start at-loop .args .digits in
-    let lent = length-lent digits (at-loop .loop .at) (at-loop .loop .out) (omega (arith, room in-loop)) in
-    (search needs, taken-next _ _ _ _ _ _ _ _ (at-loop .loop .inv .1) (λ q. length-table _ _) (rw lent at (at-call .draw-row .ensures)) refl (c .before .out .given .1))
+    let lent = length-lent (start at-loop .args .digits) (at-loop .loop .at) (at-loop .loop .out) (omega (arith, room in-loop)) in (
+      search needs,
+      taken-next _ _ _ _ _ _ _ _ (at-loop .loop .inv .1) (λ q. length-table _ _) (rw lent at (at-call .draw-row .ensures)) refl (c .before .out .given .1),
+    )
 
 same-length : tie.Need-same-length Inv-loop μ-loop
 same-length c = c .before .loop .inv .1 .1
 
 returns : tie.Need-returns Inv-loop μ-loop
-returns c = taken-whole _ _ _ _ _ _ _ (c .before .loop .inv .1) (le-antisymm (c .before .loop .inv .0) (c .loop-test .left)) (start (c .before) .pre .3)
+returns c =
+    taken-whole _ _ _ _ _ _ _ (c .before .loop .inv .1) (le-antisymm (c .before .loop .inv .0) (c .loop-test .left)) (start (c .before) .pre .3)
 
 pub draw-rows-spec : {M : Type 1} → statement M
 draw-rows-spec =

@@ -1,8 +1,7 @@
-use Prim.Native.Nat.{ℕ, _-_, _<_, _≤_}
-use mathlib.Core.Path.{_≡_, refl, ap}
-use lib.ListN.{length, getD}
-use borrow.Author.Needs.{needs}
+use Prim.Native.Nat.{_-_, _≤_}
 use native.Mathlib.Omega.{arith}
+use lib.ListN.{getD}
+use borrow.Author.Needs.{needs}
 use Rattle.picture.specs.Digit.{shownOn}
 use Rattle.picture.proofs.Lists.{Filled, filled-start, filled-next, filled-at}
 use Rattle.picture.proofs.Marks.{most-small}
@@ -10,7 +9,8 @@ use Rattle.picture.proofs.line.line_codes.Statement.{statement}
 use Rattle.picture.proofs.line.line_codes.Tie as tie
 
 abbrev Inv-loop : tie.InvT-loop
-Inv-loop display lines shift line digits codes₀ digit₀ codes digit = (digit ≤ digits) × (Filled (λ d. getD display (shownOn lines shift line d .0) 0) codes₀ codes digit)
+Inv-loop display lines shift line digits codes₀ digit₀ codes digit =
+    (digit ≤ digits) × (Filled (λ d. getD display (shownOn lines shift line d .0) 0) codes₀ codes digit)
 
 abbrev μ-loop : tie.MeasureT-loop
 μ-loop display lines shift line digits codes₀ digit₀ codes digit = digits - digit
@@ -40,7 +40,11 @@ loop-less : tie.Need-loop-less Inv-loop μ-loop
 loop-less c = search needs
 
 loop-again : tie.Need-loop-again Inv-loop μ-loop
-loop-again c = (search needs, filled-next _ _ _ _ _ (c .before .before .before .before .loop .inv .1) (omega (arith, most-small (c .before .before .before .before .before .args .lines))) (rw (c .before .before .shown .ensures .0)))
+loop-again c =
+    let at-loop = c .before .before .before .before in (
+      search needs,
+      filled-next _ _ _ _ _ (at-loop .loop .inv .1) (omega (arith, most-small (at-loop .before .args .lines))) (rw (c .before .before .shown .ensures .0)),
+    )
 
 returns : tie.Need-returns Inv-loop μ-loop
 returns c = λ d l. filled-at _ _ _ _ _ (c .before .loop .inv .1) (omega arith)

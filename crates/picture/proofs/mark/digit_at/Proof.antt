@@ -1,10 +1,10 @@
 use Prim.Native.Nat.{ℕ, _-_, _<_, _≤_}
-use mathlib.Core.Path.{_≡_, refl, ap, sym, _∙_}
-use Rattle.place.specs.Address.{addressOf}
-use Rattle.picture.specs.Digit.{shownOn}
+use mathlib.Core.Path.{_≡_, sym, _∙_}
+use native.Mathlib.Omega.{arith}
 use borrow.Author.Count.{below-more}
 use borrow.Author.Needs.{needs}
-use native.Mathlib.Omega.{arith}
+use Rattle.place.specs.Address.{addressOf}
+use Rattle.picture.specs.Digit.{shownOn}
 use Rattle.picture.proofs.Marks.{marked-here, marked-nowhere}
 use Rattle.picture.proofs.mark.digit_at.Statement.{statement}
 use Rattle.picture.proofs.mark.digit_at.Tie as tie

@@ -1,6 +1,6 @@
-use borrow.Author.Needs.{needs}
 use mathlib.Core.Path.{sym}
 use lib.Seq.{set-out}
+use borrow.Author.Needs.{needs}
 use Rattle.picture.proofs.row.draw_full.Statement.{statement}
 use Rattle.picture.proofs.row.draw_full.Tie as tie
 

@@ -1,5 +1,5 @@
 use Prim.Native.Nat.{ℕ, _-_, _%_}
-use mathlib.Core.Path.{_≡_, refl, ap}
+use mathlib.Core.Path.{refl, ap}
 use lib.ListN.{length, getD}
 use borrow.Author.Needs.{needs}
 use Rattle.picture.specs.Picture.{patternOf}

@@ -1,5 +1,5 @@
+use mathlib.Core.Path.{sym, _∙_}
 use borrow.Author.Needs.{needs}
-use mathlib.Core.Path.{_≡_, sym, _∙_}
 use Rattle.picture.proofs.Dots.{row-kept, row-set}
 use Rattle.picture.proofs.row.draw_row.Statement.{statement}
 use Rattle.picture.proofs.row.draw_row.Tie as tie
@@ -17,7 +17,9 @@ same-length : tie.Need-same-length
 same-length c = search needs
 
 returns : tie.Need-returns
-returns c = row-set _ _ _ _ _ (c .before .before .before .before .before .before .before .before .draw-patterns .ensures) _ (c .before .before .draw-full .ensures) (sym (c .before .before .before .before .before .sets .ensures) ∙ c .before .before .before .before .if1 .taken)
+returns c =
+    let at-set = c .before .before .before .before in
+    row-set _ _ _ _ _ (at-set .before .before .before .before .draw-patterns .ensures) _ (c .before .before .draw-full .ensures) (sym (at-set .before .sets .ensures) ∙ at-set .if1 .taken)
 
 same-length-2 : tie.Need-same-length-2
 same-length-2 c = search needs

@@ -1,6 +1,6 @@
 use borrow.Author.Needs.{needs}
-use Rattle.picture.specs.Picture.{patternOf, characterAt}
 use borrow.Author.Tests.{lt-ltb, le-ltb, eq-eqb, ne-eqb}
+use Rattle.picture.specs.Picture.{patternOf, characterAt}
 use Rattle.picture.proofs.row.pattern.Statement.{statement}
 use Rattle.picture.proofs.row.pattern.Tie as tie
 

@@ -1,8 +1,8 @@
-use borrow.Author.Needs.{needs}
 use Prim.Native.Nat.{ℕ}
 use mathlib.Core.Path.{ap, sym, _∙_}
 use lib.ListN.{replicate}
-use Rattle.picture.proofs.Dots.{dark-dots}
+use borrow.Author.Needs.{needs}
+use Rattle.picture.proofs.Dots.{off-dots}
 use Rattle.picture.proofs.screen.draw.Statement.{statement}
 use Rattle.picture.proofs.screen.draw.Tie as tie
 
@@ -22,7 +22,10 @@ same-length-2 : tie.Need-same-length-2
 same-length-2 c = search needs
 
 returns-2 : tie.Need-returns-2
-returns-2 c = c .before .before .blank .ensures ∙ ap (λ (n : ℕ). replicate n 0) (c .before .before .before .before .before .before .before .before .before .pre .1) ∙ sym (dark-dots _ _ _ _ (c .before .before .before .before .if1 .left))
+returns-2 c =
+    let at-off = c .before .before .before .before in
+    let l = at-off .before .before .before .before .before in
+    c .before .before .blank .ensures ∙ ap (λ (n : ℕ). replicate n 0) (l .pre .1) ∙ sym (off-dots _ _ _ _ (at-off .if1 .left))
 
 pub draw-spec : {M : Type 1} → statement M
 draw-spec =

@@ -1,11 +1,10 @@
-use Prim.Native.Nat.{ℕ, _+_, _*_, _-_, _≤_, _<_}
+use Prim.Native.Nat.{ℕ, _+_, _*_, _-_, _≤_}
 use mathlib.Core.Path.{_≡_, refl, ap, sym, _∙_}
 use native.Mathlib.Nat.{suc-mul, mul-assoc, mul-le-mul, mul-le-mul-right, le-antisymm}
+use native.Mathlib.Omega.{arith}
 use lib.ListN.{length}
 use denote.Ref.{now}
 use borrow.Author.Needs.{needs}
-use native.Mathlib.Omega.{arith}
-use Rattle.picture.specs.Digit.{linesOf}
 use Rattle.picture.specs.Table.{table, parts}
 use Rattle.picture.specs.Picture.{rowsOf, dotsAt, pictureOf}
 use Rattle.picture.proofs.Lists.{length-parts, length-table, length-lent, Taken, taken-start, taken-next, taken-whole}
@@ -13,7 +12,8 @@ use Rattle.picture.proofs.screen.draw_lines.Statement.{statement}
 use Rattle.picture.proofs.screen.draw_lines.Tie as tie
 
 abbrev Inv-loop : tie.InvT-loop
-Inv-loop controller digits rom phase out₀ count bytes line₀ at₀ out line at = (line ≤ count) × (Taken (λ m. parts (rowsOf (controller .registers .mode)) (λ row. table digits (dotsAt controller rom phase m row))) bytes out₀ out line at)
+Inv-loop controller digits rom phase out₀ count bytes line₀ at₀ out line at =
+    (line ≤ count) × (Taken (λ m. parts (rowsOf (controller .registers .mode)) (λ row. table digits (dotsAt controller rom phase m row))) bytes out₀ out line at)
 
 abbrev μ-loop : tie.MeasureT-loop
 μ-loop controller digits rom phase out₀ count bytes line₀ at₀ out line at = count - line
@@ -46,7 +46,9 @@ row-count-requires : tie.Need-row-count-requires Inv-loop μ-loop
 row-count-requires c κs = search needs
 
 mul-bytes : tie.Need-mul-bytes Inv-loop μ-loop
-mul-bytes c = let digits : start c .args .digits ≤ 255 = omega (arith, start c .fits .digits) in omega (arith, mul-le-mul (c .row-count .ensures .2) digits)
+mul-bytes c =
+    let digits : start c .args .digits ≤ 255 = omega (arith, start c .fits .digits) in
+    omega (arith, mul-le-mul (c .row-count .ensures .2) digits)
 
 loop-holds : tie.Need-loop-holds Inv-loop μ-loop
 loop-holds c = (search needs, taken-start _ _ _)
@@ -64,10 +66,11 @@ part-draw-line-end : tie.Need-part-draw-line-end Inv-loop μ-loop
 part-draw-line-end c = omega (arith, room c)
 
 draw-line-requires : tie.Need-draw-line-requires Inv-loop μ-loop
-draw-line-requires c κs = let in-loop = c .before in
-    let at-row-count = in-loop .before .before in
-    let l = start at-row-count in
-    (l .pre .0, l .pre .1, rw (at-row-count .before .line-count .ensures .0) at (in-loop .loop-test .taken), length-lent _ _ _ (omega (arith, room in-loop)) ∙ same-bytes at-row-count)
+draw-line-requires c κs =
+    let in-loop = c .before in
+    let at-rows = in-loop .before .before in
+    let l = start at-rows in
+    (l .pre .0, l .pre .1, rw (at-rows .before .line-count .ensures .0) at (in-loop .loop-test .taken), length-lent _ _ _ (omega (arith, room in-loop)) ∙ same-bytes at-rows)
 
 add-line : tie.Need-add-line Inv-loop μ-loop
 add-line c = search needs
@@ -76,18 +79,24 @@ loop-less : tie.Need-loop-less Inv-loop μ-loop
 loop-less c = search needs
 
 loop-again : tie.Need-loop-again Inv-loop μ-loop
-loop-again c = let at-call = c .before .before in
-    let at-loop = at-call .before .before .before in
-    (search needs, taken-next _ _ _ _ _ _ _ _ (at-loop .loop .inv .1) (λ q. length-parts _ _ _ (λ row. length-table _ _) ∙ sym (same-bytes (at-loop .before))) (at-call .draw-line .ensures) refl (c .before .out .given .1))
+loop-again c =
+    let at-call = c .before .before in
+    let at-loop = at-call .before .before .before in (
+      search needs,
+      taken-next _ _ _ _ _ _ _ _ (at-loop .loop .inv .1) (λ q. length-parts _ _ _ (λ row. length-table _ _) ∙ sym (same-bytes (at-loop .before))) (at-call .draw-line .ensures) refl (c .before .out .given .1),
+    )
 
 same-length : tie.Need-same-length Inv-loop μ-loop
 same-length c = c .before .loop .inv .1 .1
 
 returns : tie.Need-returns Inv-loop μ-loop
 unfolding pictureOf
-returns c = let at-loop = c .before in
+returns c =
+    let at-loop = c .before in
     let lines = at-loop .before .before .line-count in
-    taken-whole _ _ _ _ _ _ _ (at-loop .loop .inv .1) (le-antisymm (at-loop .loop .inv .0) (c .loop-test .left) ∙ lines .ensures .0) (whole (at-loop .before) ∙ ap (λ (n : ℕ). n * bytes (at-loop .before)) (lines .ensures .0))
+    taken-whole _ _ _ _ _ _ _ (at-loop .loop .inv .1)
+    (le-antisymm (at-loop .loop .inv .0) (c .loop-test .left) ∙ lines .ensures .0)
+    (whole (at-loop .before) ∙ ap (λ (n : ℕ). n * bytes (at-loop .before)) (lines .ensures .0))
 
 pub draw-lines-spec : {M : Type 1} → statement M
 draw-lines-spec =

@@ -1,7 +1,7 @@
-use borrow.Author.Needs.{needs}
 use Prim.Native.Nat.{_≤_}
 use native.Mathlib.Nat.{mul-le-mul}
 use native.Mathlib.Omega.{arith}
+use borrow.Author.Needs.{needs}
 use Rattle.picture.proofs.size.byte_count.Statement.{statement}
 use Rattle.picture.proofs.size.byte_count.Tie as tie
 
@@ -18,7 +18,9 @@ mul-result : tie.Need-mul-result
 mul-result c = omega (arith, mul-le-mul (c .before .line-count .ensures .1) (c .row-count .ensures .2))
 
 mul-result-2 : tie.Need-mul-result-2
-mul-result-2 c = let d : c .before .before .args .digits ≤ 255 = omega (arith, c .before .before .fits .digits) in omega (arith, mul-le-mul (mul-le-mul (c .before .line-count .ensures .1) (c .row-count .ensures .2)) d)
+mul-result-2 c =
+    let digits : c .before .before .args .digits ≤ 255 = omega (arith, c .before .before .fits .digits) in
+    omega (arith, mul-le-mul (mul-le-mul (c .before .line-count .ensures .1) (c .row-count .ensures .2)) digits)
 
 returns : tie.Need-returns
 returns c = simp (c .before .line-count .ensures .0, c .row-count .ensures .0)

@@ -1,8 +1,6 @@
+use mathlib.Core.Path.{refl}
 use borrow.Author.Needs.{needs}
-use mathlib.Core.Path.{_≡_, refl, ap, _∙_}
 use Rattle.picture.specs.Picture.{isMarked}
-use Prim.Native.Nat.{ℕ}
-use lib.Dec.{eqb}
 use Rattle.picture.proofs.mark.Mark.new.Statement.{statement}
 use Rattle.picture.proofs.mark.Mark.new.Tie as tie
 
@@ -20,7 +18,9 @@ is-dark-requires c κs = search needs
 
 returns : tie.Need-returns
 unfolding isMarked
-returns c = (refl, simp (c .before .is-dark .ensures), λ d l. rw (← c .before .before .before .number .ensures) (c .before .before .digit-at .ensures d l))
+returns c =
+    let at-digit = c .before .before in
+    (refl, simp (c .before .is-dark .ensures), λ d l. rw (← at-digit .before .number .ensures) (at-digit .digit-at .ensures d l))
 
 pub new-spec : {M : Type 1} → statement M
 new-spec = tie.close (tie.spec number-requires digit-at-requires cast-t12 is-dark-requires returns)

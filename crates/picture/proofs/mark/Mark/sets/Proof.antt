@@ -1,6 +1,6 @@
+use mathlib.Core.Path.{refl}
 use borrow.Author.Needs.{needs}
 use Rattle.picture.specs.Picture.{isSet}
-use mathlib.Core.Path.{refl}
 use Rattle.picture.proofs.mark.Mark.sets.Statement.{statement}
 use Rattle.picture.proofs.mark.Mark.sets.Tie as tie
 
