@@ -2,6 +2,7 @@
 use Prim.Native.Nat.{ℕ}
 use mathlib.Core.Path.{_≡_, refl, sym, ap, _∙_}
 use mathlib.Core.Bool.{cond}
+use mathlib.Core.List.{List}
 use lib.Dec.{eqb}
 use Rattle.controller.specs.declared.answer.Answer.{Answer}
 use Rattle.controller.specs.declared.answer.Answer.the-variants.{Done, FirstHalf, Busy, HalvesDisagree, NoSuchAddress, NotInRange}
@@ -9,8 +10,9 @@ use Rattle.controller.specs.declared.effect.Effect.{Effect}
 use Rattle.controller.specs.Answers.{numberOf, valueOf}
 use Rattle.controller.specs.Instructions.{Result, resultOf}
 use Rattle.bus.specs.declared.Outcome.{Outcome}
-use Rattle.bus.specs.Transfer.{Told, told}
-use Rattle.bus.specs.Theorems.{OutcomeSettled, EffectSettled}
+use Rattle.bus.specs.declared.turn.Turned.{Turned}
+use Rattle.bus.specs.Transfer.{Told, told, toldWith}
+use Rattle.bus.specs.Theorems.{OutcomeSettled, TurnSettled, EffectSettled}
 
 answerOf : (number value : ℕ) → Answer
 answerOf n v =
@@ -34,6 +36,21 @@ outcome-back o = ap (λ a. record { controller = o .controller; answer = a }) (r
 
 pub outcome-settled : OutcomeSettled
 outcome-settled o p t e f = sym (outcome-back o) ∙ ap outcomeOf (e ∙ sym f) ∙ outcome-back p
+
+turnedOf : Told → Turned
+turnedOf t = record { registers = t .controller .registers; answer = answerOf (t .number) (t .value) }
+
+turned-back : (t : Turned) (d m : List ℕ) → turnedOf (toldWith d m t) ≡ t
+unfolding turnedOf
+turned-back t d m = ap (λ a. record { registers = t .registers; answer = a }) (read-back (t .answer))
+
+pub turn-settled : TurnSettled
+turn-settled t u d m e n x p q =
+    let same : toldWith d m t ≡ toldWith e n u = p ∙ sym q in (
+      sym (turned-back t d m) ∙ ap turnedOf same ∙ turned-back u e n,
+      ap (λ (y : Told). y .controller .display) same,
+      ap (λ (y : Told). y .controller .character) same,
+    )
 
 effectFrom : Result → Effect
 effectFrom s = record { registers = s .registers; answer = answerOf (s .number) (s .value); change = s .change }

@@ -18,8 +18,9 @@ use Rattle.controller.specs.Part.{inRange, awaiting}
 use Rattle.controller.specs.Instructions.{decode, ticksOf, resultOf}
 use Rattle.bus.specs.declared.Outcome.{Outcome}
 use Rattle.bus.specs.declared.kind.Kind.{Kind}
+use Rattle.bus.specs.declared.turn.Turned.{Turned}
 use Rattle.bus.specs.Halves.{isRead}
-use Rattle.bus.specs.Transfer.{Told, told, transferOf, waitOf}
+use Rattle.bus.specs.Transfer.{Told, told, toldWith, transferOf, waitOf}
 use Rattle.bus.specs.Events.{Event, toldBy, run, reached, waits, sum}
 use Rattle.bus.specs.Refusals.{completed, conditions, Exactly}
 
@@ -115,6 +116,11 @@ WaitedEnough = (c : Controller) (ns : List ℕ) → 3750 ≤ sum ns → (k : Kin
 -- ---- any two outcomes that a promise allows are equal
 abbrev pub OutcomeSettled : Type 0
 OutcomeSettled = (o p : Outcome) (t : Told) → told o ≡ t → told p ≡ t → o ≡ p
+
+-- of a turn also each byte of both memories
+abbrev pub TurnSettled : Type 0
+TurnSettled =
+    (t u : Turned) (d m e n : List ℕ) (x : Told) → toldWith d m t ≡ x → toldWith e n u ≡ x → (t ≡ u) × (d ≡ e) × (m ≡ n)
 
 abbrev pub EffectSettled : Type 0
 EffectSettled = (e f : Effect) → resultOf e ≡ resultOf f → e ≡ f
