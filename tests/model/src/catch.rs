@@ -1,0 +1,62 @@
+//! The trial of the wrong models: the comparison has to catch every one.
+
+use crate::compare::Run;
+use crate::generator::case::{case, Case};
+use crate::model::rules::PAPER;
+use crate::programs::{Itself, Printed, Programs};
+use crate::wrong::{self, Wrong};
+
+/// How often a wrong model was caught.
+struct Caught {
+    wrong: &'static Wrong,
+    first: Option<u64>,
+    records: u64,
+}
+
+/// Runs every wrong model beside the programs. A record catches it where the programs print what
+/// the paper's rules say and the wrong model does not.
+pub fn catch_wrong(run: &Run, programs: &dyn Programs) -> bool {
+    let mut list: Vec<Caught> = wrong::all()
+        .into_iter()
+        .map(|wrong| Caught {
+            wrong,
+            first: None,
+            records: 0,
+        })
+        .collect();
+    let (mut records, mut differing) = (0, 0);
+    for number in run.numbers() {
+        let case = case(run.seed, number);
+        let right = printed(&Itself { rules: &PAPER }, &case);
+        if printed(programs, &case) != right {
+            println!("record {number} of seed {} differs: see compare", run.seed);
+            differing += 1;
+            continue;
+        }
+        records += 1;
+        for caught in &mut list {
+            let rules = &caught.wrong.rules;
+            if printed(&Itself { rules }, &case) != right {
+                caught.first.get_or_insert(number);
+                caught.records += 1;
+            }
+        }
+    }
+    for caught in &list {
+        let name = caught.wrong.name;
+        match caught.first {
+            Some(first) => println!("{name}: first at record {first}, {} in all", caught.records),
+            None => println!("{name}: NOT CAUGHT"),
+        }
+    }
+    let all = list.iter().filter(|caught| caught.first.is_some()).count();
+    println!(
+        "model: {all} of {} wrong models caught in {records} records",
+        list.len()
+    );
+    all == list.len() && differing == 0
+}
+
+fn printed(programs: &(impl Programs + ?Sized), case: &Case) -> (Printed, Printed) {
+    (programs.bench(case), programs.screen(case))
+}

@@ -1,0 +1,308 @@
+//! What the records of a run have met, and what they should have met.
+
+use crate::generator::author::WAITS;
+use crate::generator::case::{end_of, Case, DIGITS};
+use crate::generator::damage::DAMAGES;
+use crate::model::part::{switched_on, Half, Memory, Part};
+use crate::model::picture::{self, View};
+use crate::model::record::*;
+use crate::model::rules::PAPER;
+use crate::model::screen::Form;
+use crate::model::transfer::Outcome;
+use std::collections::BTreeMap;
+
+/// Below so many records a run need not meet every class.
+pub const ENOUGH_RECORDS: u64 = 1000;
+
+const RANGES: [&str; 9] = [
+    "00", "01", "02-03", "04-07", "08-0F", "10-1F", "20-3F", "40-7F", "80-FF",
+];
+
+const KINDS: [&str; 4] = ["data write", "status read", "data read", "busy status read"];
+
+#[rustfmt::skip]
+const CLASSES: [(&str, &[&str]); 13] = [
+    ("records", &["sound", "empty record", "full record", "refused 7", "refused 8", "refused 9", "too long"]),
+    ("answers", &["0", "20", "1", "2", "3"]),
+    ("instructions on eight lines", &RANGES),
+    ("instructions on four lines", &RANGES),
+    ("transfers on eight lines", &KINDS),
+    ("transfers on four lines", &KINDS),
+    ("reads", &["status with one line", "status with two lines", "data with one line", "data with two lines"]),
+    ("steps with one line", &["4F to 00", "00 to 4F", "3F to 00 of characters", "00 to 3F of characters"]),
+    ("steps with two lines", &["27 to 40", "67 to 00", "00 to 67", "40 to 27", "3F to 00 of characters", "00 to 3F of characters"]),
+    ("shifts", &["79 to 0", "0 to 79", "39 to 0", "0 to 39", "on write, left", "on write, right", "not on a character write"]),
+    ("halves", &["waited through", "kept by refusal 1", "another RS", "another R/W", "refusal 3", "refusal 3 by a half of 3", "03 completed by 3", "bus to eight lines"]),
+    ("function set", &["one to two lines", "two to one line", "an address that is lost", "a shift that is lost", "N as it was, address not 00", "N as it was, shift not 0"]),
+    ("pictures", &["shown", "refused 4", "refused 5", "4 and 5 at once", "one line", "two lines", "11 rows", "plain", "dark", "text", "pbm",
+        "display off", "cursor seen", "cursor without blink", "blink seen", "blink without cursor", "cursor of character memory", "28-3F with two lines", "code 00-0F, 8 rows", "code 00-0F, 11 rows", "shift"]),
+];
+
+type Class = (&'static str, String);
+
+pub struct Coverage {
+    counts: BTreeMap<Class, u64>,
+    order: Vec<Class>,
+}
+
+impl Coverage {
+    pub fn new() -> Coverage {
+        let mut order: Vec<Class> = Vec::new();
+        for (group, classes) in CLASSES {
+            order.extend(classes.iter().map(|class| (group, class.to_string())));
+        }
+        order.extend(DAMAGES.map(|(name, _)| ("damages", name.to_string())));
+        order.extend(WAITS.map(|wait| ("waits", wait.to_string())));
+        order.extend(DIGITS.map(|digits| ("digits", digits.to_string())));
+        let counts = order.iter().map(|class| (class.clone(), 0)).collect();
+        Coverage { counts, order }
+    }
+
+    fn met(&mut self, group: &'static str, class: impl ToString) {
+        let class = (group, class.to_string());
+        let count = self.counts.get_mut(&class);
+        *count.unwrap_or_else(|| panic!("{class:?} is no class")) += 1;
+    }
+
+    fn met_if(&mut self, condition: bool, group: &'static str, class: impl ToString) {
+        if condition {
+            self.met(group, class);
+        }
+    }
+
+    pub fn print(&self) {
+        let mut groups: Vec<&str> = self.order.iter().map(|(group, _)| *group).collect();
+        groups.dedup();
+        for group in groups {
+            let classes = self.order.iter().filter(|class| class.0 == group);
+            let counts: Vec<String> = classes
+                .map(|class| format!("{}: {}", class.1, self.counts[class]))
+                .collect();
+            println!("{group} | {}", counts.join(" | "));
+        }
+    }
+
+    /// The classes that were never met.
+    pub fn missed(&self) -> Vec<String> {
+        let missed = self.order.iter().filter(|class| self.counts[class] == 0);
+        missed
+            .map(|(group, class)| format!("{group}, {class}"))
+            .collect()
+    }
+
+    pub fn note(&mut self, case: &Case) {
+        if let Some(damage) = case.damage {
+            self.met("damages", damage);
+        }
+        if too_long(case.record.len()) {
+            self.met("records", "too long");
+            return;
+        }
+        match events(&PAPER, &case.record) {
+            Err(number) => self.met("records", format!("refused {number}")),
+            Ok(events) => {
+                self.met("records", "sound");
+                self.met_if(events.is_empty(), "records", "empty record");
+                self.met_if(events.len() == MOST_EVENTS, "records", "full record");
+                self.note_events(&events);
+                self.note_picture(case);
+            }
+        }
+    }
+
+    fn note_events(&mut self, events: &[Event]) {
+        let mut part = switched_on();
+        for &event in events {
+            let before = part.clone();
+            let outcome = run(&PAPER, &mut part, event);
+            self.note_event(&before, event, outcome, &part);
+        }
+    }
+
+    fn note_event(&mut self, before: &Part, event: Event, outcome: Outcome, after: &Part) {
+        let waits = before.half.is_some();
+        if event.kind == WAIT {
+            self.met_if(WAITS.contains(&event.value), "waits", event.value);
+            self.met_if(waits && event.value > 0, "halves", "waited through");
+            return;
+        }
+        self.met("answers", outcome.answer);
+        self.met_if(waits && outcome.answer == 1, "halves", "kept by refusal 1");
+        let lacking = waits && outcome.answer == 3;
+        self.met_if(lacking, "halves", "refusal 3");
+        let by_three = lacking && event.value >> 4 == 3;
+        self.met_if(by_three, "halves", "refusal 3 by a half of 3");
+        if let (Some(half), 2) = (before.half, outcome.answer) {
+            let rs = event.kind == DATA_WRITE || event.kind == DATA_READ;
+            self.met_if(half.rs != rs, "halves", "another RS");
+            self.met_if(half.rs == rs, "halves", "another R/W");
+        }
+        if outcome.answer == 0 {
+            self.note_done(before, event, after);
+        }
+    }
+
+    fn note_done(&mut self, before: &Part, event: Event, after: &Part) {
+        let (instructions, transfers) = if before.eight_lines {
+            ("instructions on eight lines", "transfers on eight lines")
+        } else {
+            ("instructions on four lines", "transfers on four lines")
+        };
+        match event.kind {
+            INSTRUCTION_WRITE => {
+                let byte = completed(before.half, event.value as u8);
+                let range = (8 - byte.leading_zeros()) as usize;
+                self.met(instructions, RANGES[range]);
+                self.note_function(before, byte, after);
+                let by_three = before.half.is_some() && byte == 0x03;
+                self.met_if(by_three, "halves", "03 completed by 3");
+            }
+            DATA_WRITE => {
+                self.met(transfers, "data write");
+                self.note_shift_on_write(before);
+            }
+            STATUS_READ => {
+                self.met(transfers, "status read");
+                self.met_if(before.busy > 0, transfers, "busy status read");
+            }
+            _ => self.met(transfers, "data read"),
+        }
+        self.note_read(before, event);
+        self.note_step(before, event, after);
+        self.note_shift(before, after);
+    }
+
+    fn note_read(&mut self, before: &Part, event: Event) {
+        let read = match event.kind {
+            STATUS_READ => "status",
+            DATA_READ => "data",
+            _ => return,
+        };
+        let lines = ["one line", "two lines"][before.lines() - 1];
+        self.met("reads", format!("{read} with {lines}"));
+    }
+
+    fn note_function(&mut self, before: &Part, byte: u8, after: &Part) {
+        if !(0x20..=0x3F).contains(&byte) {
+            return;
+        }
+        let changes = before.two_lines != after.two_lines;
+        let group = "function set";
+        self.met_if(changes && after.two_lines, group, "one to two lines");
+        self.met_if(changes && !after.two_lines, group, "two to one line");
+        let lost = before.memory == Memory::Display
+            && !(PAPER.has_address)(after.two_lines, before.address);
+        self.met_if(changes && lost, group, "an address that is lost");
+        self.met_if(changes && before.shift > 0, group, "a shift that is lost");
+        let address = !changes && before.address > 0;
+        self.met_if(address, group, "N as it was, address not 00");
+        let shift = !changes && before.shift > 0;
+        self.met_if(shift, group, "N as it was, shift not 0");
+        let to_eight = !before.eight_lines && after.eight_lines;
+        self.met_if(to_eight, "halves", "bus to eight lines");
+    }
+
+    fn note_shift_on_write(&mut self, before: &Part) {
+        let display = before.memory == Memory::Display;
+        let class = match (before.shift_on_write, display, before.up) {
+            (false, _, _) => return,
+            (true, false, _) => "not on a character write",
+            (true, true, true) => "on write, left",
+            (true, true, false) => "on write, right",
+        };
+        self.met("shifts", class);
+    }
+
+    fn note_step(&mut self, before: &Part, event: Event, after: &Part) {
+        let byte = completed(before.half, event.value as u8);
+        let steps = match event.kind {
+            INSTRUCTION_WRITE => (0x10..=0x17).contains(&byte),
+            DATA_WRITE | DATA_READ => true,
+            _ => false,
+        };
+        let (group, borders): (_, &[(u8, u8)]) = match (before.memory, before.two_lines) {
+            (Memory::Display, false) => ("steps with one line", &[(0x4F, 0x00), (0x00, 0x4F)]),
+            (Memory::Display, true) => (
+                "steps with two lines",
+                &[(0x27, 0x40), (0x67, 0x00), (0x00, 0x67), (0x40, 0x27)],
+            ),
+            (Memory::Character, false) => ("steps with one line", &[(0x3F, 0x00), (0x00, 0x3F)]),
+            (Memory::Character, true) => ("steps with two lines", &[(0x3F, 0x00), (0x00, 0x3F)]),
+        };
+        let step = (before.address, after.address);
+        if steps && borders.contains(&step) {
+            let memory = match before.memory {
+                Memory::Display => "",
+                Memory::Character => " of characters",
+            };
+            self.met(group, format!("{:02X} to {:02X}{memory}", step.0, step.1));
+        }
+    }
+
+    fn note_shift(&mut self, before: &Part, after: &Part) {
+        let last = if before.two_lines { 39 } else { 79 };
+        let wraps = [(last, 0), (0, last)].contains(&(before.shift, after.shift));
+        if wraps && before.two_lines == after.two_lines {
+            self.met("shifts", format!("{} to {}", before.shift, after.shift));
+        }
+    }
+
+    fn note_picture(&mut self, case: &Case) {
+        let part = end_of(&case.record);
+        let view = &case.view;
+        let listed = DIGITS.contains(&view.digits);
+        self.met_if(listed, "digits", view.digits);
+        let group = "pictures";
+        if let Err(number) = picture::picture(&PAPER, &part, view) {
+            self.met(group, format!("refused {number}"));
+            let both = number == 4 && !picture::rom_length(view.rom.len());
+            self.met_if(both, group, "4 and 5 at once");
+            return;
+        }
+        self.met(group, "shown");
+        self.met(group, if view.dark { "dark" } else { "plain" });
+        self.met(group, ["text", "pbm"][usize::from(case.form == Form::Pbm)]);
+        if part.display_on {
+            self.note_dots(&part, view);
+        } else {
+            self.met(group, "display off");
+        }
+    }
+
+    fn note_dots(&mut self, part: &Part, view: &View) {
+        let group = "pictures";
+        let tall = picture::rows(part) == 11;
+        self.met(group, ["one line", "two lines"][part.lines() - 1]);
+        self.met_if(tall, group, "11 rows");
+        self.met_if(part.shift > 0, group, "shift");
+        let digits = 0..usize::from(view.digits);
+        let cells: Vec<usize> = (0..part.lines())
+            .flat_map(|line| digits.clone().map(move |digit| (line, digit)))
+            .map(|(line, digit)| picture::cell_shown(part, line, digit))
+            .collect();
+        let characters = cells.iter().any(|&cell| part.display[cell] < 0x10);
+        self.met_if(characters && !tall, group, "code 00-0F, 8 rows");
+        self.met_if(characters && tall, group, "code 00-0F, 11 rows");
+        let wanted = part.cursor_on || part.blink_on;
+        let nowhere = part.two_lines && (0x28..=0x3F).contains(&part.address);
+        self.met_if(wanted && nowhere, group, "28-3F with two lines");
+        if !cells.iter().any(|&cell| picture::marked(part, cell)) {
+            return;
+        }
+        let blinks = part.blink_on && view.dark;
+        self.met_if(part.cursor_on, group, "cursor seen");
+        self.met_if(part.cursor_on && !blinks, group, "cursor without blink");
+        self.met_if(blinks, group, "blink seen");
+        self.met_if(blinks && !part.cursor_on, group, "blink without cursor");
+        let characters = part.memory == Memory::Character;
+        self.met_if(wanted && characters, group, "cursor of character memory");
+    }
+}
+
+/// The byte that a write completes.
+fn completed(half: Option<Half>, lines: u8) -> u8 {
+    match half {
+        Some(half) => half.upper << 4 | lines >> 4,
+        None => lines,
+    }
+}

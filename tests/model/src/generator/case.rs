@@ -1,0 +1,91 @@
+//! A case: what one run of each program is given.
+
+use super::author;
+use super::damage;
+use super::random::Random;
+use crate::model::part::{switched_on, Part};
+use crate::model::picture::{View, ROM_BYTES};
+use crate::model::record::{self, record, MOST_EVENTS};
+use crate::model::rules::PAPER;
+use crate::model::screen::Form;
+
+pub const DIGITS: [u8; 12] = [0, 1, 16, 20, 24, 39, 40, 41, 79, 80, 81, 255];
+
+pub struct Case {
+    pub record: Vec<u8>,
+    /// The damage's name, or nothing for a sound record.
+    pub damage: Option<&'static str>,
+    /// Where the input pauses, so that it arrives in two pieces.
+    pub pause: Option<usize>,
+    pub view: View,
+    pub form: Form,
+}
+
+/// The case of a seed with this number.
+pub fn case(seed: u64, number: u64) -> Case {
+    let random = &mut Random::new(seed, number);
+    let (record, damage) = if random.percent(25) {
+        let (record, name) = damage::damaged(random);
+        (record, Some(name))
+    } else {
+        let room = room(random);
+        (record(&author::events(random, room)), None)
+    };
+    let most = if end_of(&record).two_lines { 40 } else { 80 };
+    let pause = random
+        .percent(10)
+        .then(|| random.below(record.len().max(1)));
+    Case {
+        view: View {
+            digits: digits(random, most),
+            rom: rom(random),
+            dark: random.percent(50),
+        },
+        form: random.pick(&[Form::Text, Form::Pbm]),
+        record,
+        damage,
+        pause,
+    }
+}
+
+/// The part that a sound record ends in; switched on for another.
+pub fn end_of(record: &[u8]) -> Part {
+    let mut part = switched_on();
+    for event in record::events(&PAPER, record).unwrap_or_default() {
+        record::run(&PAPER, &mut part, event);
+    }
+    part
+}
+
+fn room(random: &mut Random) -> usize {
+    match random.below(100) {
+        0 => 0,
+        1 => MOST_EVENTS,
+        2..=5 => random.between(1, 30),
+        6..=15 => random.between(600, 1000),
+        _ => random.between(100, 400),
+    }
+}
+
+fn digits(random: &mut Random, most: u8) -> u8 {
+    let any = random.byte();
+    let listed = random.pick(&DIGITS);
+    random.pick(&[
+        most,
+        most,
+        most,
+        most,
+        most - 1,
+        listed,
+        listed,
+        listed,
+        any,
+    ])
+}
+
+fn rom(random: &mut Random) -> Vec<u8> {
+    let any = random.below(10_000);
+    let wrong = random.pick(&[0, 1, 4095, 4097, 8192, any]);
+    let length = if random.percent(92) { ROM_BYTES } else { wrong };
+    random.bytes(length)
+}

@@ -1,0 +1,12 @@
+//! The model: the part, the record, the bench table and the screen's output, rule by rule.
+
+pub mod counter;
+pub mod halves;
+pub mod instruction;
+pub mod part;
+pub mod picture;
+pub mod record;
+pub mod rules;
+pub mod screen;
+pub mod table;
+pub mod transfer;

@@ -1,0 +1,161 @@
+//! The two programs under test: the built ones, or the model itself in their place.
+
+use crate::generator::case::Case;
+use crate::model::rules::Rules;
+use crate::model::screen::{arguments, screen, Form};
+use crate::model::table::bench;
+use std::fs;
+use std::io::{self, Write};
+use std::path::PathBuf;
+use std::process::{Command, Output, Stdio};
+use std::thread::sleep;
+use std::time::Duration;
+
+/// What a program printed, or how it failed to end as it should.
+pub type Printed = Result<Vec<u8>, String>;
+
+pub trait Programs {
+    fn bench(&self, case: &Case) -> Printed;
+    fn screen(&self, case: &Case) -> Printed;
+    /// Lines that `screen` prints, to whichever stream, for a list of arguments and no record.
+    fn screen_lines(&self, arguments: &[String]) -> Result<usize, String>;
+}
+
+/// The model in the programs' place.
+pub struct Itself<'r> {
+    pub rules: &'r Rules,
+}
+
+impl Programs for Itself<'_> {
+    fn bench(&self, case: &Case) -> Printed {
+        Ok(bench(self.rules, &case.record).into_bytes())
+    }
+
+    fn screen(&self, case: &Case) -> Printed {
+        Ok(screen(self.rules, &case.record, &case.view, case.form))
+    }
+
+    fn screen_lines(&self, list: &[String]) -> Result<usize, String> {
+        let unreadable = |rom: &str| fs::read(rom).is_err();
+        match arguments(list) {
+            Some(arguments) if !unreadable(&arguments.rom) => Err("a picture is due".to_string()),
+            _ => Ok(1),
+        }
+    }
+}
+
+/// The built programs, with a folder of their own for ROM images.
+pub struct Built {
+    bench: String,
+    screen: String,
+    folder: PathBuf,
+}
+
+impl Built {
+    pub fn new(bench: &str, screen: &str) -> Result<Built, String> {
+        for program in [bench, screen] {
+            fs::metadata(program).map_err(|error| format!("{program}: {error}"))?;
+        }
+        let name = format!("screen-model-{}", std::process::id());
+        let folder = std::env::temp_dir().join(name);
+        fs::create_dir_all(&folder).map_err(|error| format!("{}: {error}", folder.display()))?;
+        Ok(Built {
+            bench: bench.to_string(),
+            screen: screen.to_string(),
+            folder,
+        })
+    }
+
+    fn rom(&self) -> PathBuf {
+        self.folder.join("rom")
+    }
+}
+
+impl Drop for Built {
+    fn drop(&mut self) {
+        // Nothing can be done about a folder that stays.
+        let _ = fs::remove_dir_all(&self.folder);
+    }
+}
+
+impl Programs for Built {
+    /// The bench program ends with status 0.
+    fn bench(&self, case: &Case) -> Printed {
+        let output = run(&self.bench, &[], &case.record, case.pause)?;
+        if output.status.success() {
+            Ok(output.stdout)
+        } else {
+            Err(format!("{}", output.status))
+        }
+    }
+
+    fn screen(&self, case: &Case) -> Printed {
+        let rom = self.rom();
+        fs::write(&rom, &case.view.rom).map_err(|error| format!("{}: {error}", rom.display()))?;
+        let arguments = screen_arguments(case, &rom.display().to_string());
+        let output = run(&self.screen, &arguments, &case.record, case.pause)?;
+        ended(&output)?;
+        Ok(output.stdout)
+    }
+
+    fn screen_lines(&self, arguments: &[String]) -> Result<usize, String> {
+        let output = run(&self.screen, arguments, &[0x00, 0x01, 0x01], None)?;
+        ended(&output)?;
+        let printed = [output.stdout, output.stderr].concat();
+        if !printed.is_empty() && !printed.ends_with(b"\n") {
+            return Err("a line without its end".to_string());
+        }
+        Ok(printed.iter().filter(|&&byte| byte == b'\n').count())
+    }
+}
+
+pub fn screen_arguments(case: &Case, rom: &str) -> Vec<String> {
+    let phase = if case.view.dark { "dark" } else { "plain" };
+    let mut arguments = vec![case.view.digits.to_string(), rom.into(), phase.into()];
+    if case.form == Form::Pbm {
+        arguments.push("pbm".into());
+    }
+    arguments
+}
+
+/// A program ended by itself, with whatever status.
+fn ended(output: &Output) -> Result<(), String> {
+    match output.status.code() {
+        Some(_) => Ok(()),
+        None => Err(format!("{}", output.status)),
+    }
+}
+
+fn run(
+    program: &str,
+    arguments: &[String],
+    input: &[u8],
+    pause: Option<usize>,
+) -> Result<Output, String> {
+    let attempt = || {
+        let mut child = Command::new(program)
+            .args(arguments)
+            .stdin(Stdio::piped())
+            .stdout(Stdio::piped())
+            .stderr(Stdio::piped())
+            .spawn()?;
+        let mut stdin = child.stdin.take().expect("standard input is a pipe");
+        let (first, second) = input.split_at(pause.unwrap_or(input.len()));
+        give(&mut stdin, first)?;
+        if pause.is_some() {
+            sleep(Duration::from_millis(2));
+        }
+        give(&mut stdin, second)?;
+        drop(stdin);
+        child.wait_with_output()
+    };
+    attempt().map_err(|error: io::Error| format!("{program}: {error}"))
+}
+
+/// A program may end before it has read all: what is too long need not be read to its end.
+fn give(stdin: &mut impl Write, bytes: &[u8]) -> io::Result<()> {
+    match stdin.write_all(bytes) {
+        Err(error) if error.kind() == io::ErrorKind::BrokenPipe => Ok(()),
+        given => given,
+    }
+}

@@ -1,0 +1,38 @@
+//! Wrong models: each replaces one of the paper's rules. The comparison has to catch every one.
+
+mod counters;
+mod halves;
+mod instructions;
+mod pictures;
+mod records;
+
+use crate::model::rules::Rules;
+
+pub struct Wrong {
+    pub name: &'static str,
+    pub rules: Rules,
+}
+
+/// The paper's errors seen in earlier firmware.
+pub const EARLIER_FIRMWARE: [&str; 5] = [
+    "restart-drops-half",
+    "busy-write-counts-as-half",
+    "27-to-28",
+    "reads-move-display",
+    "n-change-keeps-address",
+];
+
+pub fn all() -> Vec<&'static Wrong> {
+    let lists = [
+        counters::LIST,
+        instructions::LIST,
+        halves::LIST,
+        pictures::LIST,
+        records::LIST,
+    ];
+    lists.into_iter().flatten().collect()
+}
+
+pub fn named(name: &str) -> Option<&'static Wrong> {
+    all().into_iter().find(|wrong| wrong.name == name)
+}
