@@ -36,21 +36,21 @@ impl Kind {
         }
     }
 
-    pub fn is_status(self) -> bool
+    pub(crate) fn is_status(self) -> bool
         ensures { λ r. ⌜ r ≡ isStatus self ⌝ }
     {
         !self.is_data() & self.is_read()
     }
 
     // Whether a second half of this kind completes a first half of that one.
-    pub fn alike(self, first: Kind) -> bool
+    pub(crate) fn alike(self, first: Kind) -> bool
         ensures { λ r. ⌜ r ≡ alikeOf first self ⌝ }
     {
         (first.is_data() == self.is_data()) & (first.is_read() == self.is_read())
     }
 
     // The half that waits once the upper four lines of a first half are taken.
-    pub fn half(self, upper: u8) -> Half
+    pub(crate) fn half(self, upper: u8) -> Half
         ensures { λ r. ⌜ r ≡ halfOf self upper ⌝ }
     {
         match self {

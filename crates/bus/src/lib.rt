@@ -4,8 +4,8 @@ ghost use Rattle.bus.specs.Transfer.{told, transferOf, waitOf};
 
 mod data;
 pub mod kind;
-pub mod memory;
-pub mod step;
+mod memory;
+mod step;
 pub mod turn;
 
 use controller::Controller;

@@ -33,7 +33,7 @@ impl DisplayAddress {
         }
     }
 
-    pub fn up(self, mode: LineMode) -> DisplayAddress
+    pub(crate) fn up(self, mode: LineMode) -> DisplayAddress
         ensures { λ r. ⌜ r ≡ upDisplay mode self ⌝ }
     {
         let n = self.0;
@@ -57,7 +57,7 @@ impl DisplayAddress {
         }
     }
 
-    pub fn down(self, mode: LineMode) -> DisplayAddress
+    pub(crate) fn down(self, mode: LineMode) -> DisplayAddress
         ensures { λ r. ⌜ r ≡ downDisplay mode self ⌝ }
     {
         let n = self.0;
@@ -83,13 +83,13 @@ impl DisplayAddress {
 }
 
 impl CharacterAddress {
-    pub fn exists(self) -> bool
+    pub(crate) fn exists(self) -> bool
         ensures { λ r. ⌜ r ≡ hasCharacter self ⌝ }
     {
         self.0 <= 0x3f
     }
 
-    pub fn up(self) -> CharacterAddress
+    pub(crate) fn up(self) -> CharacterAddress
         ensures { λ r. ⌜ r ≡ upCharacter self ⌝ }
     {
         let n = self.0;
@@ -100,7 +100,7 @@ impl CharacterAddress {
         }
     }
 
-    pub fn down(self) -> CharacterAddress
+    pub(crate) fn down(self) -> CharacterAddress
         ensures { λ r. ⌜ r ≡ downCharacter self ⌝ }
     {
         let n = self.0;

@@ -14,7 +14,7 @@ pub enum LineMode {
 
 impl LineMode {
     // The largest shift.
-    pub fn last_shift(self) -> u8
+    pub(crate) fn last_shift(self) -> u8
         ensures { λ r. ⌜ r ≡ lastShift self ⌝ }
     {
         match self {

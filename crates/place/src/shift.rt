@@ -12,7 +12,7 @@ impl Shift {
         self.0 <= mode.last_shift()
     }
 
-    pub fn left(self, mode: LineMode) -> Shift
+    pub(crate) fn left(self, mode: LineMode) -> Shift
         ensures { λ r. ⌜ r ≡ leftOf mode self ⌝ }
     {
         let n = self.0;
@@ -23,7 +23,7 @@ impl Shift {
         }
     }
 
-    pub fn right(self, mode: LineMode) -> Shift
+    pub(crate) fn right(self, mode: LineMode) -> Shift
         ensures { λ r. ⌜ r ≡ rightOf mode self ⌝ }
     {
         let n = self.0;
