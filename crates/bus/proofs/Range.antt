@@ -35,10 +35,13 @@ use Rattle.bus.specs.Refusals.{completed, isFirst}
 use Rattle.bus.specs.Theorems.{RangeKept, ReachedInRange}
 use Rattle.bus.proofs.Outcomes.{Ways, of-act, of-step, of-transfer, of-wait}
 
--- the counter and the shift exist
-record Placed (r : Registers) : Type 0 where
-  counter : T (hasCounter (r .mode .lines) (r .counter))
-  shift : T (hasShift (r .mode .lines) (r .shift))
+-- the line mode has the counter and the shift
+record At (lines : LineMode) (k : Counter) (s : Shift) : Type 0 where
+  counter : T (hasCounter lines k)
+  shift : T (hasShift lines s)
+
+abbrev Placed : Registers → Type 0
+Placed r = At (r .mode .lines) (r .counter) (r .shift)
 
 placed-of : (r : Registers) → InRange r → Placed r
 placed-of r f = record { counter = f .counter; shift = f .shift }
