@@ -1,0 +1,5 @@
+pub mod Columns
+pub mod Turns
+pub mod Outcomes
+pub mod Settled
+pub mod Example

@@ -1,0 +1,37 @@
+-- Laws of the lines of a record's events.
+use Prim.Native.Nat.{ℕ, _+_, _≤_}
+use mathlib.Core.Path.{_≡_}
+use mathlib.Core.List.{List, [], _∷_, _++_}
+use lib.ListN.{length, drop}
+use Rattle.controller.specs.declared.Controller.{Controller}
+use Rattle.controller.specs.Part.{switchedOn}
+use Rattle.bus.specs.Transfer.{Told}
+use Rattle.bus.specs.Events.{toldBy}
+use Rattle.record.specs.declared.events.Event.{Event}
+use Rattle.record.specs.Event.{rawOf}
+use Rattle.record.specs.Record.{runIn, eventsOf, checkOf}
+use Rattle.record.proofs.InTurn.{sound-events}
+use Rattle.run.specs.Run.{eventOn}
+use Rattle.text.specs.Put.{Puts}
+use Rattle.table.specs.Table.{lineOf, linesOf}
+use Rattle.text.proofs.Placed.{Awaits, awaits-all, awaits-none, awaits-more}
+
+pub lines-start : (bytes : List ℕ) (c : Controller) (place : ℕ) (out : List ℕ) → checkOf bytes ≡ 0 → c ≡ switchedOn
+    → Awaits (linesOf 1 (runIn (drop 3 bytes)) c) place out (linesOf 1 (eventsOf bytes) switchedOn) place out
+lines-start bytes c place out sound on = rw (on, sound-events bytes sound) (awaits-all (linesOf 1 (runIn (drop 3 bytes)) switchedOn) place out)
+
+abbrev lineOn : ℕ → Event → Told → List ℕ
+lineOn number event told = lineOf number (rawOf event .kind) (rawOf event .value) (told .number) (told .value)
+
+module _ (number : ℕ) (events : List Event) (c : Controller) (next : ℕ) (now text : List ℕ) (place : ℕ) (out : List ℕ) (a : Awaits (linesOf number events c) next now text place out) where
+  -- one event more is told to the part, and its line put
+  pub lines-turn : (event : Event) (rest : List Event) (told : Told) (then : ℕ) (left : List ℕ) → events ≡ event ∷ rest → told ≡ toldBy (eventOn event) c → next ≤ length now
+      → Puts (lineOn number event told) next now then left → Awaits (linesOf (number + 1) rest (told .controller)) then left text place out
+  unfolding linesOf
+  lines-turn event rest told then left e f h p =
+      awaits-more text place out (lineOn number event told) (linesOf (number + 1) rest (told .controller)) next now (rw (e, ← f) at a) h then left p
+
+  -- no event is left
+  pub lines-end : events ≡ [] → Puts text place out next now
+  unfolding linesOf
+  lines-end e = awaits-none text place out next now (rw e at a)

@@ -1,0 +1,28 @@
+-- `put_table` meets its contract.
+use borrow.Author.Needs.{needs}
+use native.Mathlib.Omega.{arith}
+use Rattle.table.specs.Table.{tableOf}
+use Rattle.text.proofs.Placed.{puts-then}
+use Rattle.table.proofs.printed.put_table.Statement.{statement}
+use Rattle.table.proofs.printed.put_table.Tie as tie
+
+slice-aggregate-put-text : tie.Need-slice-aggregate-put-text
+slice-aggregate-put-text c = search needs
+
+put-text-requires : tie.Need-put-text-requires
+put-text-requires c κs = search needs
+
+put-lines-requires : tie.Need-put-lines-requires
+put-lines-requires c κs = search needs
+
+same-length : tie.Need-same-length
+same-length c = search needs
+
+returns : tie.Need-returns
+unfolding tableOf
+returns c = puts-then _ _ _ _ _ _ _ _ (omega arith) (c .before .before .before .before .before .before .put-text .ensures) (c .before .before .put-lines .ensures)
+
+pub put-table-spec : {M : Type 1} → statement M
+put-table-spec =
+    tie.close
+    (tie.spec slice-aggregate-put-text put-text-requires put-lines-requires same-length returns)

@@ -1,0 +1,44 @@
+// A line for each event of a record.
+use crate::line::put_event;
+use controller::Controller;
+use record::Step;
+ghost use mathlib.Core.Path.{_≡_};
+ghost use Prim.Native.Nat.{_+_, _*_, _≤_};
+ghost use lib.ListN.{length};
+ghost use Rattle.controller.specs.Part.{switchedOn};
+ghost use Rattle.record.specs.Record.{eventsOf, checkOf};
+ghost use Rattle.text.specs.Put.{Puts};
+ghost use Rattle.table.specs.Table.{linesOf};
+
+// The record is sound. The part just switched on keeps its memories in place.
+pub(crate) fn put_lines(bytes: &[u8], place: usize, out: &mut [u8]) -> usize
+    requires { ⌜ (checkOf (now bytes) ≡ 0) × (length (now bytes) ≤ 12291) × (place + 4096 * 20 ≤ length (now out)) ⌝ }
+    ensures { λ r. ⌜ Puts (linesOf 1 (eventsOf (now (bytes .entry))) switchedOn) place (now (out .entry)) r (now (out .exit)) ⌝ }
+{
+    let part = Controller::switched_on();
+    let mut display = part.display;
+    let mut character = part.character;
+    let mut registers = part.registers;
+    let mut number: u16 = 1;
+    let mut from: usize = 3;
+    let mut next = place;
+    while from < bytes.len() {
+        match record::event_at(bytes, from) {
+            Step::Found(event, behind) => {
+                let turned = run::give(&mut display, &mut character, registers, event);
+                registers = turned.registers;
+                let answer = turned.answer;
+                next = put_event(number, event, answer, next, out);
+                number += 1;
+                from = behind;
+            }
+            Step::End => {
+                return next;
+            }
+            Step::NoEvent => {
+                return next;
+            }
+        }
+    }
+    next
+}
