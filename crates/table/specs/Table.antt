@@ -6,7 +6,6 @@ use lib.Dec.{ltb, eqb}
 use lib.ListN.{length}
 use Rattle.controller.specs.declared.Controller.{Controller}
 use Rattle.controller.specs.Part.{switchedOn}
-use Rattle.bus.specs.Transfer.{Told}
 use Rattle.bus.specs.Events.{toldBy}
 use Rattle.record.specs.declared.events.Event.{Event}
 use Rattle.record.specs.Event.{rawOf}
@@ -23,7 +22,7 @@ spaced (n ∷ more) = decimalOf n ++ textOf " " ++ spaced more
 unfoldable pub lineOf : (number kind value answer read : ℕ) → List ℕ
 lineOf number kind value answer read = spaced (number ∷ kind ∷ value ∷ answer ∷ []) ++ (decimalOf read ++ textOf "\n")
 
--- a line per event, each told to the part that the ones before leave
+-- a line per event, each given to the part as the events before it leave it
 unfoldable pub linesOf : (number : ℕ) → List Event → Controller → List ℕ
 linesOf number [] c = []
 linesOf number (event ∷ events) c =

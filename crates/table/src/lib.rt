@@ -7,7 +7,7 @@ mod printed;
 ghost use Rattle.table.specs.Tabled.{Tabling};
 use printed::put_printed;
 
-// The heading, and a line for each of 4,096 events.
+// Room for the heading of 31 bytes and the lines of 4,096 events.
 pub const MOST_BYTES: usize = 31 + line::LONGEST * record::MOST_EVENTS;
 
 pub enum Tabled {

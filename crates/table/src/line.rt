@@ -11,9 +11,10 @@ ghost use Rattle.text.specs.Put.{Puts};
 ghost use Rattle.table.specs.Table.{spaced, lineOf};
 ghost use Rattle.table.specs.Tabled.{Narrow};
 
-// Numbers of 4, 1, 5, 2 and 3 digits, and a byte behind each.
+// A line's bytes: numbers of at most 4, 1, 5, 2 and 3 digits, and a byte behind each.
 pub(crate) const LONGEST: usize = 20;
 
+// A space behind each number.
 fn put_spaced(numbers: &[u16], place: usize, out: &mut [u8]) -> usize
     requires { ⌜ place + length (spaced (now numbers)) ≤ length (now out) ⌝ }
     ensures { λ r. ⌜ Puts (spaced (now (numbers .entry))) place (now (out .entry)) r (now (out .exit)) ⌝ }

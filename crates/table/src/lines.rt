@@ -10,7 +10,7 @@ ghost use Rattle.record.specs.Record.{eventsOf, checkOf};
 ghost use Rattle.text.specs.Put.{Puts};
 ghost use Rattle.table.specs.Table.{linesOf};
 
-// The record is sound. The part just switched on keeps its memories in place.
+// Of a sound record, given to a part just switched on, whose memories stay in place.
 pub(crate) fn put_lines(bytes: &[u8], place: usize, out: &mut [u8]) -> usize
     requires { ⌜ (checkOf (now bytes) ≡ 0) × (length (now bytes) ≤ 12291) × (place + 4096 * 20 ≤ length (now out)) ⌝ }
     ensures { λ r. ⌜ Puts (linesOf 1 (eventsOf (now (bytes .entry))) switchedOn) place (now (out .entry)) r (now (out .exit)) ⌝ }
