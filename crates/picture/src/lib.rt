@@ -6,7 +6,7 @@ mod line;
 mod mark;
 mod row;
 mod screen;
-mod size;
+pub mod size;
 
 use controller::Controller;
 

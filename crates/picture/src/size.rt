@@ -22,7 +22,7 @@ pub fn has_digits(lines: LineMode, digits: u8) -> bool
     (1 <= digits) & (digits <= most_digits(lines))
 }
 
-pub fn line_count(lines: LineMode) -> u8
+pub(crate) fn line_count(lines: LineMode) -> u8
     ensures { λ r. ⌜ (r ≡ linesOf lines) × (r ≤ 2) ⌝ }
 {
     match lines {

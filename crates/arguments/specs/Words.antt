@@ -1,0 +1,55 @@
+-- `screen DIGITS ROM plain|dark [pbm]`: what the words mean. The file's name is not looked at.
+use Prim.Native.Nat.{ℕ}
+use Prim.Native.Char.{code}
+use mathlib.Core.Bool.{Bool, true, false, cond, _&&_}
+use mathlib.Core.List.{List, [], _∷_}
+use lib.Dec.{leb, eqb}
+use Rattle.text.specs.Text.{textOf, meantBy}
+use Rattle.picture.specs.declared.Phase.the-variants.{Plain, Dark}
+use Rattle.sheet.specs.declared.Form.the-variants.{Text, Image}
+use Rattle.arguments.specs.declared.Asked.{Asked}
+use Rattle.arguments.specs.declared.Asked.the-variants.{View, Usage}
+use Rattle.arguments.specs.declared.count.Count.{Count}
+use Rattle.arguments.specs.declared.count.Count.the-variants.{Digits, NoCount}
+use Rattle.arguments.specs.declared.word.Phased.{Phased}
+use Rattle.arguments.specs.declared.word.Phased.the-variants.{InPhase, NoPhase}
+use Rattle.arguments.specs.declared.word.Formed.{Formed}
+use Rattle.arguments.specs.declared.word.Formed.the-variants.{InForm, NoForm}
+
+-- ---- DIGITS: decimal, 0 to 255, plain digits only
+
+unfoldable pub allDigits : List ℕ → Bool
+allDigits [] = true
+allDigits (character ∷ word) = (leb (code "0") character && leb character (code "9")) && allDigits word
+
+abbrev pub isEmpty : List ℕ → Bool
+isEmpty [] = true
+isEmpty (character ∷ word) = false
+
+unfoldable pub countIn : List ℕ → Count
+countIn word = cond (isEmpty word) NoCount (cond (allDigits word && leb (meantBy 0 word) 255) (Digits (meantBy 0 word)) NoCount)
+
+-- ---- plain or dark, and pbm if there is a fourth word
+
+unfoldable pub isWord : (text word : List ℕ) → Bool
+isWord [] [] = true
+isWord [] (b ∷ word) = false
+isWord (a ∷ text) [] = false
+isWord (a ∷ text) (b ∷ word) = eqb a b && isWord text word
+
+unfoldable pub phaseIn : List ℕ → Phased
+phaseIn word = cond (isWord (textOf "plain") word) (InPhase Plain) (cond (isWord (textOf "dark") word) (InPhase Dark) NoPhase)
+
+unfoldable pub formIn : (words : ℕ) → List ℕ → Formed
+formIn words word = cond (eqb words 3) (InForm Text) (cond (eqb words 4 && isWord (textOf "pbm") word) (InForm Image) NoForm)
+
+-- ---- a word that means nothing asks for the usage line
+
+unfoldable pub viewOf : Count → Phased → Formed → Asked
+viewOf (Digits n) (InPhase phase) (InForm form) = View n phase form
+viewOf (Digits n) (InPhase phase) NoForm = Usage
+viewOf (Digits n) NoPhase formed = Usage
+viewOf NoCount phased formed = Usage
+
+unfoldable pub askedBy : (words : ℕ) (digits phase form : List ℕ) → Asked
+askedBy words digits phase form = viewOf (countIn digits) (phaseIn phase) (formIn words form)

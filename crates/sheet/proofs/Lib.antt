@@ -1,0 +1,5 @@
+pub mod Placed
+pub mod Rows
+pub mod Sheets
+pub mod Promise
+pub mod Theorems

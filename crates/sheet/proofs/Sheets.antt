@@ -1,0 +1,70 @@
+-- Laws of the sheet: how long its parts are, and where its rows stand in the picture's bytes.
+use Prim.Native.Nat.{ℕ, zero, suc, _+_, _*_, _-_, _<_, _≤_}
+use mathlib.Core.Path.{_≡_, refl, ap, sym, _∙_}
+use mathlib.Core.Bool.{true}
+use mathlib.Core.List.{List, [], _∷_, _++_, append-assoc, append-nil}
+use native.Mathlib.Omega.{arith}
+use lib.Dec.{leb, leb→le}
+use lib.ListN.{length, take, drop, getD, length-append, length-drop}
+use lib.Seq.{take-length, getD-drop}
+use Rattle.place.specs.declared.LineMode.{LineMode}
+use Rattle.place.specs.declared.LineMode.the-variants.{One, Two}
+use Rattle.place.proofs.Tests.{holds, and-left, and-right}
+use Rattle.controller.specs.declared.registers.Mode.{Mode}
+use Rattle.picture.specs.Digit.{mostDigits}
+use Rattle.picture.specs.Picture.{rowsOf}
+use Rattle.picture.specs.Answers.{hasDigits}
+use Rattle.picture.proofs.Lists.{length-parts, length-table}
+use Rattle.picture.proofs.Marks.{most-small}
+use Rattle.sheet.specs.declared.Form.{Form}
+use Rattle.sheet.specs.declared.Form.the-variants.{Text, Image}
+use Rattle.text.specs.Text.{decimalOf}
+use Rattle.sheet.specs.Row.{textRow, imageRow}
+use Rattle.sheet.specs.Sheet.{headOf, rowIn, gapIn, between, lineIn, sheetOf}
+use Rattle.sheet.specs.Size.{rowSize, gapSize, linesSize, sizeOf}
+
+-- ---- what the count of digits tells
+pub digits-counted : (lines : LineMode) (digits : ℕ) → hasDigits lines digits ≡ true → (1 ≤ digits) × (digits ≤ 80) × (digits ≤ mostDigits lines)
+unfolding hasDigits
+digits-counted lines digits h =
+    let most : digits ≤ mostDigits lines = leb→le digits (mostDigits lines) (and-right (leb 1 digits) _ (holds _ h)) in
+    (leb→le 1 digits (and-left (leb 1 digits) _ (holds _ h)), omega (arith, most-small lines), most)
+
+-- ---- lengths
+pub length-head : (width height : ℕ) → length (headOf Image width height) ≡ 5 + length (decimalOf width) + length (decimalOf height)
+unfolding headOf
+length-head width height = simp length-append (omega arith)
+
+pub length-row : (form : Form) (digits : ℕ) (byte : ℕ → ℕ) → 1 ≤ digits → length (rowIn form digits byte) ≡ rowSize form digits
+unfolding rowIn rowSize textRow imageRow
+length-row Text digits byte h = simp (length-append, length-table) (omega arith)
+length-row Image digits byte h = length-table _ _
+
+pub length-gap : (form : Form) (digits : ℕ) → length (gapIn form digits) ≡ gapSize form digits
+unfolding gapIn gapSize rowSize imageRow
+length-gap Text digits = refl
+length-gap Image digits = length-table _ _
+
+pub length-line : (form : Form) (rows digits : ℕ) (dots : List ℕ) (line : ℕ) → 1 ≤ digits → length (lineIn form rows digits dots line) ≡ rows * rowSize form digits
+unfolding lineIn
+length-line form rows digits dots line h = length-parts rows (rowSize form digits) _ (λ row. length-row form digits _ h)
+
+pub length-between : (lines : LineMode) (gap : List ℕ) (line : ℕ → List ℕ) (s : ℕ) → ((k : ℕ) → length (line k) ≡ s) → length (between lines gap line) ≡ linesSize lines (length gap) s
+unfolding between linesSize
+length-between One gap line s h = h 0
+length-between Two gap line s h = simp (length-append, h)
+
+pub length-sheet : (form : Form) (mode : Mode) (digits : ℕ) (dots : List ℕ) → 1 ≤ digits → length (sheetOf form mode digits dots) ≡ sizeOf form mode digits
+unfolding sheetOf sizeOf
+length-sheet form mode digits dots h =
+    length-append (headOf form _ _) _ ∙ rw (length-between (mode .lines) (gapIn form digits) _ _ (λ line. length-line form (rowsOf mode) digits dots line h), length-gap)
+
+-- ---- the bytes from a place on
+pub rest-lent : (from : ℕ) (dots : List ℕ) → take (length dots - from) (drop from dots) ≡ drop from dots
+rest-lent from dots =
+    let rest : length (drop from dots) ≡ length dots - from = length-drop from dots in
+    rw (← rest, take-length)
+
+pub row-from : (form : Form) (digits from place : ℕ) (dots : List ℕ) → from ≡ place
+    → rowIn form digits (λ digit. getD (take (length dots - from) (drop from dots)) digit 0) ≡ rowIn form digits (λ digit. getD dots (place + digit) 0)
+row-from form digits from place dots e = rw (rest-lent, e) (simp getD-drop)

@@ -1,0 +1,80 @@
+// How many bytes a sheet has.
+ghost use mathlib.Core.Path.{_≡_};
+ghost use Prim.Native.Nat.{_*_, _≤_, _<_};
+ghost use lib.ListN.{length};
+ghost use Rattle.picture.specs.Picture.{rowsOf};
+ghost use Rattle.sheet.specs.Sheet.{heightOf, headOf};
+ghost use Rattle.sheet.specs.Size.{rowSize, gapSize, linesSize, sizeOf};
+use super::Form;
+use super::row::width;
+use controller::registers::Mode;
+use picture::size::row_count;
+use place::LineMode;
+use text::digit_count;
+
+pub fn height(mode: Mode) -> usize
+    ensures { λ r. ⌜ (r ≡ heightOf mode) × (r < 100) ⌝ }
+{
+    let rows = row_count(mode);
+    let lines = mode.lines;
+    match lines {
+        LineMode::One => rows,
+        LineMode::Two => 2 * rows + 1,
+    }
+}
+
+fn head_size(form: Form, width: u16, height: u16) -> usize
+    ensures { λ r. ⌜ (r ≡ length (headOf form width height)) × (r ≤ 15) ⌝ }
+{
+    match form {
+        Form::Text => 0,
+        Form::Image => 5 + digit_count(width) + digit_count(height),
+    }
+}
+
+pub fn row_size(form: Form, digits: usize) -> usize
+    requires { ⌜ (1 ≤ digits) × (digits ≤ 80) ⌝ }
+    ensures { λ r. ⌜ (r ≡ rowSize form digits) × (r ≤ 480) ⌝ }
+{
+    match form {
+        Form::Text => 6 * digits,
+        Form::Image => (width(digits) + 7) / 8,
+    }
+}
+
+pub fn gap_size(form: Form, digits: usize) -> usize
+    requires { ⌜ (1 ≤ digits) × (digits ≤ 80) ⌝ }
+    ensures { λ r. ⌜ (r ≡ gapSize form digits) × (r ≤ 480) ⌝ }
+{
+    match form {
+        Form::Text => 1,
+        Form::Image => row_size(form, digits),
+    }
+}
+
+// All rows of one line of the screen.
+fn line_size(form: Form, mode: Mode, digits: usize) -> usize
+    requires { ⌜ (1 ≤ digits) × (digits ≤ 80) ⌝ }
+    ensures { λ r. ⌜ (r ≡ rowsOf mode * rowSize form digits) × (r ≤ 5280) ⌝ }
+{
+    row_count(mode) * row_size(form, digits)
+}
+
+fn lines_size(form: Form, mode: Mode, digits: usize) -> usize
+    requires { ⌜ (1 ≤ digits) × (digits ≤ 80) ⌝ }
+    ensures { λ r. ⌜ (r ≡ linesSize (mode .lines) (gapSize form digits) (rowsOf mode * rowSize form digits)) × (r ≤ 11040) ⌝ }
+{
+    let line = line_size(form, mode, digits);
+    let lines = mode.lines;
+    match lines {
+        LineMode::One => line,
+        LineMode::Two => line + (gap_size(form, digits) + line),
+    }
+}
+
+pub fn byte_size(form: Form, mode: Mode, digits: usize) -> usize
+    requires { ⌜ (1 ≤ digits) × (digits ≤ 80) ⌝ }
+    ensures { λ r. ⌜ r ≡ sizeOf form mode digits ⌝ }
+{
+    head_size(form, width(digits) as u16, height(mode) as u16) + lines_size(form, mode, digits)
+}

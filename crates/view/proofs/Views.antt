@@ -1,0 +1,39 @@
+-- Laws of a view: `too long`, a refused record, or the picture of a part in range.
+use Prim.Native.Nat.{ℕ, _<_, _≤_}
+use mathlib.Core.Path.{_≡_, _∙_}
+use mathlib.Core.Bool.{true}
+use mathlib.Core.List.{List, map}
+use borrow.Author.Tests.{lt-ltb, le-ltb, eq-eqb, ne-eqb}
+use lib.ListN.{length}
+use Rattle.place.proofs.Tests.{is-true}
+use Rattle.controller.specs.declared.Controller.{Controller}
+use Rattle.controller.specs.Part.{inRange, switchedOn}
+use Rattle.text.specs.Text.{textOf, refusedOf}
+use Rattle.bus.proofs.Range.{reached-in-range}
+use Rattle.record.specs.Record.{eventsOf, checkOf}
+use Rattle.run.specs.declared.Ran.{Ran}
+use Rattle.run.specs.Run.{eventOn, ranOf, Running}
+use Rattle.picture.specs.declared.Phase.{Phase}
+use Rattle.sheet.specs.declared.Form.{Form}
+use Rattle.view.specs.View.{shownOf, viewOf}
+
+module _ (digits : ℕ) (phase : Phase) (form : Form) (rom bytes : List ℕ) where
+  pub view-long : 12291 < length bytes → viewOf digits phase form rom bytes ≡ textOf "too long\n"
+  unfolding viewOf
+  view-long h = rw (lt-ltb 12291 (length bytes) h)
+
+  pub view-refused : (n : ℕ) → length bytes ≤ 12291 → n ≡ checkOf bytes → (n ≡ 0 → ⊥) → viewOf digits phase form rom bytes ≡ refusedOf n
+  unfolding viewOf
+  view-refused n h e k = rw (le-ltb 12291 (length bytes) h, ← e, ne-eqb n 0 k)
+
+  pub view-shown : (c : Controller) → length bytes ≤ 12291 → checkOf bytes ≡ 0 → c ≡ ranOf (eventsOf bytes) switchedOn → viewOf digits phase form rom bytes ≡ shownOf c digits phase form rom
+  unfolding viewOf
+  view-shown c h e k = rw (le-ltb 12291 (length bytes) h, eq-eqb (checkOf bytes) 0 e, k)
+
+-- ---- the part that a sound record leaves
+pub ran-told : (bytes : List ℕ) (r : Ran) → Running bytes r → checkOf bytes ≡ 0 → r .controller ≡ ranOf (eventsOf bytes) switchedOn
+ran-told bytes r p e = p .controller ∙ rw (eq-eqb (checkOf bytes) 0 e)
+
+pub ran-in-range : (bytes : List ℕ) (c : Controller) → c ≡ ranOf (eventsOf bytes) switchedOn → inRange (c .registers) ≡ true
+unfolding ranOf
+ran-in-range bytes c e = rw e (is-true _ (reached-in-range (map eventOn (eventsOf bytes))))

@@ -1,0 +1,3 @@
+pub mod View
+pub mod Answers
+pub mod Claims

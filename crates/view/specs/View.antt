@@ -1,0 +1,31 @@
+-- What the screen program prints for a count of digits, a phase, a form, a ROM file and a record.
+use Prim.Native.Nat.{ℕ}
+use mathlib.Core.Bool.{cond}
+use mathlib.Core.List.{List}
+use lib.Dec.{ltb, eqb}
+use lib.ListN.{length}
+use Rattle.text.specs.Text.{textOf, refusedOf}
+use Rattle.controller.specs.declared.Controller.{Controller}
+use Rattle.controller.specs.Part.{switchedOn}
+use Rattle.record.specs.Record.{eventsOf, checkOf}
+use Rattle.run.specs.Run.{ranOf}
+use Rattle.picture.specs.declared.Phase.{Phase}
+use Rattle.picture.specs.Picture.{pictureOf}
+use Rattle.picture.specs.Answers.{hasDigits}
+use Rattle.sheet.specs.declared.Form.{Form}
+use Rattle.sheet.specs.Sheet.{sheetOf}
+
+-- the picture of a part: 4 for the count of digits, then 5 for the ROM file
+unfoldable pub shownOf : Controller → (digits : ℕ) → Phase → Form → (rom : List ℕ) → List ℕ
+shownOf c digits phase form rom =
+    cond (hasDigits (c .registers .mode .lines) digits)
+    (cond (eqb (length rom) 4096)
+    (sheetOf form (c .registers .mode) digits (pictureOf c digits rom phase))
+    (refusedOf 5))
+    (refusedOf 4)
+
+-- `too long` for more than 12,291 bytes, checked first; then 7, 8 and 9 for the record; then the picture of the part that its events leave
+unfoldable pub viewOf : (digits : ℕ) → Phase → Form → (rom bytes : List ℕ) → List ℕ
+viewOf digits phase form rom bytes =
+    cond (ltb 12291 (length bytes)) (textOf "too long\n")
+    (cond (eqb (checkOf bytes) 0) (shownOf (ranOf (eventsOf bytes) switchedOn) digits phase form rom) (refusedOf (checkOf bytes)))
