@@ -7,7 +7,7 @@ pub enum Count {
     NoCount,
 }
 
-pub fn count_in(word: &[u8]) -> Count
+pub(crate) fn count_in(word: &[u8]) -> Count
     ensures { λ r. ⌜ r ≡ countIn (now (word .entry)) ⌝ }
 {
     if word.len() == 0 {

@@ -30,7 +30,7 @@ fn is_word(text: &[u8], word: &[u8]) -> bool
     true
 }
 
-pub fn phase_in(word: &[u8]) -> Phased
+pub(crate) fn phase_in(word: &[u8]) -> Phased
     ensures { λ r. ⌜ r ≡ phaseIn (now (word .entry)) ⌝ }
 {
     if is_word(b"plain", word) {
@@ -42,7 +42,7 @@ pub fn phase_in(word: &[u8]) -> Phased
     Phased::NoPhase
 }
 
-pub fn form_in(words: usize, word: &[u8]) -> Formed
+pub(crate) fn form_in(words: usize, word: &[u8]) -> Formed
     ensures { λ r. ⌜ r ≡ formIn words (now (word .entry)) ⌝ }
 {
     if words == 3 {

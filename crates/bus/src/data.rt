@@ -44,7 +44,7 @@ fn shift_after(registers: Registers) -> Shift
     }
 }
 
-pub fn write_data(registers: Registers, byte: u8) -> Effect
+pub(crate) fn write_data(registers: Registers, byte: u8) -> Effect
     ensures { λ r. ⌜ resultOf r ≡ writeData registers byte ⌝ }
 {
     let mode = registers.mode;
@@ -62,7 +62,7 @@ pub fn write_data(registers: Registers, byte: u8) -> Effect
     )
 }
 
-pub fn read_data(registers: Registers, value: u8) -> Effect
+pub(crate) fn read_data(registers: Registers, value: u8) -> Effect
     ensures { λ r. ⌜ resultOf r ≡ readData registers value ⌝ }
 {
     let mode = registers.mode;
@@ -79,14 +79,14 @@ pub fn read_data(registers: Registers, value: u8) -> Effect
     )
 }
 
-pub fn read_status(registers: Registers, value: u8) -> Effect
+pub(crate) fn read_status(registers: Registers, value: u8) -> Effect
     ensures { λ r. ⌜ resultOf r ≡ readStatus registers value ⌝ }
 {
     done(value, registers.busy, registers, Change::Nothing)
 }
 
 // What a transfer of this kind reads, where the counter addresses this byte.
-pub fn value_read(registers: Registers, kind: Kind, byte: u8) -> u8
+pub(crate) fn value_read(registers: Registers, kind: Kind, byte: u8) -> u8
     requires { ⌜ hasCounter (registers .mode .lines) (registers .counter) ≡ true ⌝ }
     ensures { λ r. ⌜ r ≡ readOf kind registers byte ⌝ }
 {

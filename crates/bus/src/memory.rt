@@ -8,7 +8,7 @@ use controller::registers::Registers;
 use place::counter::Counter;
 
 // The byte that the counter addresses.
-pub fn addressed(display: &[u8; 80], character: &[u8; 64], registers: Registers) -> u8
+pub(crate) fn addressed(display: &[u8; 80], character: &[u8; 64], registers: Registers) -> u8
     requires { ⌜ hasCounter (registers .mode .lines) (registers .counter) ≡ true ⌝ }
     ensures { λ r. ⌜ r ≡ byteAt (registers .mode .lines) (registers .counter) (now (display .entry)) (now (character .entry)) ⌝ }
 {
@@ -28,7 +28,7 @@ pub fn addressed(display: &[u8; 80], character: &[u8; 64], registers: Registers)
     }
 }
 
-pub fn apply(display: &mut [u8; 80], character: &mut [u8; 64], change: Change)
+pub(crate) fn apply(display: &mut [u8; 80], character: &mut [u8; 64], change: Change)
     requires { ⌜ changeFits change ≡ true ⌝ }
     ensures { λ _. ⌜ (now (display .exit) ≡ displayAfter change (now (display .entry))) × (now (character .exit) ≡ characterAfter change (now (character .entry))) ⌝ }
 {

@@ -84,7 +84,7 @@ fn on_four(registers: Registers, kind: Kind, byte: u8, value: u8) -> Effect
 }
 
 // The counter addresses this byte. Whoever runs many transfers tests the range once: a step keeps it.
-pub fn step(registers: Registers, kind: Kind, value: u8, addressed: u8) -> Effect
+pub(crate) fn step(registers: Registers, kind: Kind, value: u8, addressed: u8) -> Effect
     requires { ⌜ inRange registers ≡ true ⌝ }
     ensures { λ r. ⌜ resultOf r ≡ stepOf registers kind value addressed ⌝ }
 {

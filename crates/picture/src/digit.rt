@@ -6,7 +6,7 @@ use place::LineMode;
 use place::address::Cell;
 use place::shift::Shift;
 
-pub fn shown(lines: LineMode, shift: Shift, line: u8, digit: u8) -> Cell
+pub(crate) fn shown(lines: LineMode, shift: Shift, line: u8, digit: u8) -> Cell
     requires { ⌜ (shift .0 < mostDigits lines) × (line < linesOf lines) × (digit < mostDigits lines) ⌝ }
     ensures { λ r. ⌜ (r ≡ shownOn lines shift line digit) × (r .0 < 80) ⌝ }
 {

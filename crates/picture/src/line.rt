@@ -56,7 +56,7 @@ fn draw_rows(
     }
 }
 
-pub fn draw_line(
+pub(crate) fn draw_line(
     controller: Controller,
     digits: u8,
     rom: &[u8],

@@ -46,7 +46,7 @@ fn digit_at(lines: LineMode, shift: Shift, line: u8, digits: u8, address: u8) ->
 }
 
 impl Mark {
-    pub fn new(registers: Registers, phase: Phase, line: u8, digits: u8) -> Mark
+    pub(crate) fn new(registers: Registers, phase: Phase, line: u8, digits: u8) -> Mark
         requires { ⌜ (registers .shift .0 < mostDigits (registers .mode .lines)) × (line < linesOf (registers .mode .lines)) × (digits ≤ mostDigits (registers .mode .lines)) ⌝ }
         ensures { λ r. ⌜ (r .cursor ≡ registers .lights .cursor) × (r .blink ≡ registers .lights .blink && isDark phase) × ((d : ℕ) → d < digits → eqb d (r .digit) ≡ isMarked registers (shownOn (registers .mode .lines) (registers .shift) line d)) ⌝ }
     {
@@ -62,7 +62,7 @@ impl Mark {
         }
     }
 
-    pub fn sets(self, rows: usize, row: usize) -> bool
+    pub(crate) fn sets(self, rows: usize, row: usize) -> bool
         requires { ⌜ row < rows ⌝ }
         ensures { λ r. ⌜ r ≡ isSet (self .cursor) (self .blink) rows row ⌝ }
     {

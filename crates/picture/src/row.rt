@@ -52,7 +52,7 @@ fn draw_full(digit: usize, out: &mut [u8])
     }
 }
 
-pub fn draw_row(
+pub(crate) fn draw_row(
     codes: &[u8; 80],
     character: &[u8; 64],
     rom: &[u8],

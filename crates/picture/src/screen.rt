@@ -39,7 +39,7 @@ fn blank(out: &mut [u8])
     }
 }
 
-pub fn draw(controller: Controller, digits: u8, rom: &[u8], phase: Phase, out: &mut [u8])
+pub(crate) fn draw(controller: Controller, digits: u8, rom: &[u8], phase: Phase, out: &mut [u8])
     requires { ⌜ (Asked controller digits (length (now rom))) × (length (now out) ≡ bytesOf (controller .registers .mode) digits) ⌝ }
     ensures { λ _. ⌜ now (out .exit) ≡ pictureOf controller digits (now (rom .entry)) phase ⌝ }
 {

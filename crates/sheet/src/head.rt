@@ -7,7 +7,7 @@ use super::Form;
 use text::put_number;
 use text::put_text;
 
-pub fn put_head(form: Form, width: u16, height: u16, out: &mut [u8]) -> usize
+pub(crate) fn put_head(form: Form, width: u16, height: u16, out: &mut [u8]) -> usize
     requires { ⌜ length (headOf form width height) ≤ length (now out) ⌝ }
     ensures { λ r. ⌜ Puts (headOf form width height) 0 (now (out .entry)) r (now (out .exit)) ⌝ }
 {

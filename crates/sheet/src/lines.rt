@@ -59,7 +59,7 @@ fn draw_lines(form: Form, mode: Mode, digits: usize, dots: &[u8], out: &mut [u8]
     }
 }
 
-pub fn draw(form: Form, mode: Mode, digits: usize, dots: &[u8], out: &mut [u8])
+pub(crate) fn draw(form: Form, mode: Mode, digits: usize, dots: &[u8], out: &mut [u8])
     requires { ⌜ (1 ≤ digits) × (digits ≤ 80) × (bytesOf mode digits ≤ length (now dots)) × (length (now out) ≡ sizeOf form mode digits) ⌝ }
     ensures { λ _. ⌜ now (out .exit) ≡ sheetOf form mode digits (now (dots .entry)) ⌝ }
 {

@@ -26,7 +26,7 @@ fn mark(byte: u8, column: usize) -> u8
     if is_on(byte, column) { b'#' } else { b'.' }
 }
 
-pub fn width(digits: usize) -> usize
+pub(crate) fn width(digits: usize) -> usize
     requires { ⌜ (1 ≤ digits) × (digits ≤ 80) ⌝ }
     ensures { λ r. ⌜ (r ≡ widthOf digits) × (r ≤ 479) ⌝ }
 {
@@ -82,7 +82,7 @@ fn draw_bits(digits: usize, dots: &[u8], out: &mut [u8])
 }
 
 // The row at the front of `dots`.
-pub fn draw_row(form: Form, digits: usize, dots: &[u8], out: &mut [u8])
+pub(crate) fn draw_row(form: Form, digits: usize, dots: &[u8], out: &mut [u8])
     requires { ⌜ (1 ≤ digits) × (digits ≤ 80) × (digits ≤ length (now dots)) × (length (now out) ≡ rowSize form digits) ⌝ }
     ensures { λ _. ⌜ now (out .exit) ≡ rowIn form digits (λ digit. getD (now (dots .entry)) digit 0) ⌝ }
 {
@@ -93,7 +93,7 @@ pub fn draw_row(form: Form, digits: usize, dots: &[u8], out: &mut [u8])
 }
 
 // What stands between the two lines of the screen.
-pub fn draw_gap(form: Form, digits: usize, out: &mut [u8])
+pub(crate) fn draw_gap(form: Form, digits: usize, out: &mut [u8])
     requires { ⌜ (1 ≤ digits) × (digits ≤ 80) × (length (now out) ≡ gapSize form digits) ⌝ }
     ensures { λ _. ⌜ now (out .exit) ≡ gapIn form digits ⌝ }
 {

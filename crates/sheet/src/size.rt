@@ -12,7 +12,7 @@ use picture::size::row_count;
 use place::LineMode;
 use text::digit_count;
 
-pub fn height(mode: Mode) -> usize
+pub(crate) fn height(mode: Mode) -> usize
     ensures { λ r. ⌜ (r ≡ heightOf mode) × (r < 100) ⌝ }
 {
     let rows = row_count(mode);
@@ -32,7 +32,7 @@ fn head_size(form: Form, width: u16, height: u16) -> usize
     }
 }
 
-pub fn row_size(form: Form, digits: usize) -> usize
+pub(crate) fn row_size(form: Form, digits: usize) -> usize
     requires { ⌜ (1 ≤ digits) × (digits ≤ 80) ⌝ }
     ensures { λ r. ⌜ (r ≡ rowSize form digits) × (r ≤ 480) ⌝ }
 {
@@ -42,7 +42,7 @@ pub fn row_size(form: Form, digits: usize) -> usize
     }
 }
 
-pub fn gap_size(form: Form, digits: usize) -> usize
+pub(crate) fn gap_size(form: Form, digits: usize) -> usize
     requires { ⌜ (1 ≤ digits) × (digits ≤ 80) ⌝ }
     ensures { λ r. ⌜ (r ≡ gapSize form digits) × (r ≤ 480) ⌝ }
 {
@@ -72,7 +72,7 @@ fn lines_size(form: Form, mode: Mode, digits: usize) -> usize
     }
 }
 
-pub fn byte_size(form: Form, mode: Mode, digits: usize) -> usize
+pub(crate) fn byte_size(form: Form, mode: Mode, digits: usize) -> usize
     requires { ⌜ (1 ≤ digits) × (digits ≤ 80) ⌝ }
     ensures { λ r. ⌜ r ≡ sizeOf form mode digits ⌝ }
 {
