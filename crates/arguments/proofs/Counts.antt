@@ -1,5 +1,5 @@
 -- Laws of counts: digits one by one, and what a word with other characters or too large a number comes to.
-use Prim.Native.Nat.{ℕ, suc, _+_, _*_, _-_, _<_, _≤_}
+use Prim.Native.Nat.{ℕ, _+_, _*_, _-_, _<_, _≤_}
 use Prim.Native.Char.{code}
 use mathlib.Core.Path.{_≡_, refl, _∙_}
 use mathlib.Core.Bool.{Bool, true, false, cond, _&&_}
@@ -11,7 +11,6 @@ use lib.Dec.{leb}
 use lib.ListN.{length, drop, getD}
 use lib.Seq.{drop-cons, drop-length}
 use Rattle.text.specs.Text.{meantBy}
-use Rattle.arguments.specs.declared.count.Count.{Count}
 use Rattle.arguments.specs.declared.count.Count.the-variants.{Digits, NoCount}
 use Rattle.arguments.specs.Words.{allDigits, isEmpty, countIn}
 use Rattle.arguments.proofs.Letters.{and-false}

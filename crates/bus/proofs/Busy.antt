@@ -1,23 +1,22 @@
 -- Busy time: after each answer what the table says, lowered by waits, and waited out by 3,750 ticks.
-use Prim.Native.Nat.{ℕ, _+_, _-_, _≤_}
+use Prim.Native.Nat.{ℕ, _-_}
 use mathlib.Core.Path.{_≡_, refl, sym, ap, _∙_, subst}
-use mathlib.Core.Logic.{_≢_}
-use mathlib.Core.Bool.{Bool, true, false, cond, _&&_, not}
+use mathlib.Core.Bool.{Bool, cond, _&&_, not}
 use mathlib.Core.List.{List, [], _∷_}
 use native.Mathlib.Omega.{arith}
 use borrow.Author.Tests.{eq-eqb}
 use lib.Dec.{T, eqb, T-not}
 use Rattle.place.proofs.Tests.{split, is-true, not-not, and-left, and-right}
 use Rattle.controller.specs.declared.Controller.{Controller}
-use Rattle.controller.specs.declared.registers.Registers.{Registers}
 use Rattle.controller.specs.Part.{inRange, waited}
-use Rattle.controller.specs.Instructions.{Result, decode, lacking, obey, ticksOf}
+use Rattle.controller.specs.Instructions.{Result, decode, lacking, obey}
 use Rattle.controller.proofs.Ranged.{InRange, facts}
 use Rattle.bus.specs.declared.kind.Kind.{Kind}
 use Rattle.bus.specs.Data.{act, writeData, readData, readStatus}
 use Rattle.bus.specs.Halves.{firstHalf}
-use Rattle.bus.specs.Transfer.{Told, isStatus, refusedBusy, stepOf, addressed, carried, notInRange, waitedTold, transferOf, waitOf}
-use Rattle.bus.specs.Events.{Wait, toldBy, waits, sum}
+use Rattle.bus.specs.Transfer.{Told, isStatus, refusedBusy, addressed, notInRange, waitedTold, waitOf}
+use Rattle.bus.specs.declared.event.Event.the-variants.{Wait}
+use Rattle.bus.specs.Events.{toldBy, waits, sum}
 use Rattle.bus.specs.Refusals.{completed, conditions}
 use Rattle.bus.specs.Theorems.{busyFor, BusyByTable, WaitLowers, WaitedEnough}
 use Rattle.bus.proofs.Outcomes.{of-step, of-transfer, of-wait}

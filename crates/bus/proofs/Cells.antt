@@ -1,10 +1,10 @@
 -- A transfer changes at most the one addressed cell, unless it is Clear.
 use Prim.Native.Nat.{ℕ}
 use mathlib.Core.Path.{_≡_, refl, ap, subst, subst⁻¹}
-use mathlib.Core.Logic.{_⊎_, _≢_, inl, inr, ⊎-elim}
+use mathlib.Core.Logic.{_⊎_, ⊎-elim}
 use mathlib.Core.Bool.{Bool, true, false, _&&_, not}
 use mathlib.Core.List.{List}
-use lib.ListN.{getD, set, replicate}
+use lib.ListN.{getD}
 use lib.Seq.{getD-set-other}
 use lib.Dec.{T, eqb, eqb→eq, T-not}
 use Rattle.place.specs.declared.LineMode.{LineMode}
@@ -14,14 +14,13 @@ use Rattle.place.specs.Address.{cellOf}
 use Rattle.place.proofs.Tests.{split, holds, neqb→ne}
 use Rattle.controller.specs.declared.Controller.{Controller}
 use Rattle.controller.specs.declared.change.Change.{Change}
-use Rattle.controller.specs.declared.instruction.Instruction.{Instruction}
 use Rattle.controller.specs.Instructions.{Result, decode, effectOf, ticksOf, changeOf, lacking, obey, done}
 use Rattle.controller.proofs.Decoded.{only-clear-changes}
 use Rattle.bus.specs.declared.kind.Kind.{Kind}
 use Rattle.bus.specs.Memory.{storeAt, displayAfter, characterAfter}
 use Rattle.bus.specs.Data.{act, writeData, readData, readStatus}
-use Rattle.bus.specs.Halves.{isRead, firstHalf}
-use Rattle.bus.specs.Transfer.{Told, addressed, carried, transferOf}
+use Rattle.bus.specs.Halves.{firstHalf}
+use Rattle.bus.specs.Transfer.{Told, addressed, carried}
 use Rattle.bus.specs.Refusals.{completed}
 use Rattle.bus.specs.Theorems.{namesCell, namesCharacter, clears, Cells, OneCellAtMost}
 use Rattle.bus.proofs.Outcomes.{of-step, of-transfer}
@@ -78,7 +77,7 @@ module _ (c : Controller) (n : ℕ) where
 
   obeyed : (b : Bool) → eqb byte 0x01 ≡ b
       → Carried Kind.InstructionWrite (done 0 (ticksOf (decode byte)) (effectOf (decode byte) (c .registers)) (changeOf (decode byte)))
-  unfolding Carried clears isRead decode changeOf displayAfter characterAfter
+  unfolding Carried clears decode changeOf displayAfter characterAfter
   obeyed true e =
       let clear : changeOf (decode byte) ≡ Change.Clear =
       subst⁻¹ (λ (b : ℕ). changeOf (decode b) ≡ Change.Clear) (eqb→eq byte 0x01 (holds (eqb byte 0x01) e)) refl in
@@ -93,7 +92,7 @@ module _ (c : Controller) (n : ℕ) where
       same-memories Kind.InstructionWrite _ (display-as Change.Nothing (only-clear-changes byte t)) (character-as Change.Nothing (only-clear-changes byte t)) t
 
   act-cells : (k : Kind) (v : ℕ) → Carried k (act k (c .registers) byte v)
-  unfolding Carried clears isRead act obey writeData readStatus readData displayAfter characterAfter
+  unfolding Carried clears act obey writeData readStatus readData displayAfter characterAfter
   act-cells Kind.InstructionWrite v =
       split (Carried Kind.InstructionWrite) (lacking (decode byte) (c .registers .mode .lines))
       (λ t. same-memories Kind.InstructionWrite _ refl refl tt)

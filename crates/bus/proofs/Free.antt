@@ -1,10 +1,9 @@
 -- An instruction write to a part that is free: what it comes to on eight lines, and on four by the half that waits.
 use Prim.Native.Nat.{ℕ, _+_, _*_}
 use mathlib.Core.Path.{_≡_, refl, sym, ap, _∙_}
-use mathlib.Core.Bool.{Bool, true, false, cond, _&&_, not}
+use mathlib.Core.Bool.{Bool, cond}
 use mathlib.Core.List.{List, [], _∷_}
-use borrow.Author.Tests.{eq-eqb}
-use lib.Dec.{T, eqb}
+use lib.Dec.{T}
 use Rattle.place.proofs.Tests.{is-true}
 use Rattle.controller.specs.declared.Controller.{Controller}
 use Rattle.controller.specs.declared.half.Half.{Half}
@@ -12,12 +11,13 @@ use Rattle.controller.specs.declared.half.LineCount.{LineCount}
 use Rattle.controller.specs.declared.half.LineCount.the-variants.{Eight, Four}
 use Rattle.controller.specs.declared.registers.Registers.{Registers}
 use Rattle.controller.specs.Part.{inRange, awaiting, waited}
-use Rattle.controller.specs.Instructions.{Result, decode, obey, forgotten}
+use Rattle.controller.specs.Instructions.{decode, obey, forgotten}
 use Rattle.bus.specs.declared.kind.Kind.{Kind}
 use Rattle.bus.specs.Data.{act, readOf}
-use Rattle.bus.specs.Halves.{upper, isData, isRead, alike, firstHalf, secondHalf, onFour, onBus}
-use Rattle.bus.specs.Transfer.{Told, isStatus, refusedBusy, busyResult, stepOf, addressed, carried, notInRange, transferOf, waitOf}
-use Rattle.bus.specs.Events.{Wait, toldBy, waits}
+use Rattle.bus.specs.Halves.{upper, firstHalf, secondHalf, onFour, onBus}
+use Rattle.bus.specs.Transfer.{Told, refusedBusy, stepOf, addressed, carried, notInRange, transferOf, waitOf}
+use Rattle.bus.specs.declared.event.Event.the-variants.{Wait}
+use Rattle.bus.specs.Events.{toldBy, waits}
 use Rattle.bus.proofs.Range.{range-kept}
 use Rattle.bus.proofs.Busy.{waited-told}
 
@@ -74,18 +74,18 @@ module _ (r : Registers) (n b : ℕ) where
   -- the half of an instruction is completed
   pub second-completes : (u : ℕ) → r .bus ≡ Four → r .half ≡ Half.InstructionWrite u
       → stepOf (freed r) Kind.InstructionWrite n b ≡ obey (decode (u * 16 + upper n)) (freed r)
-  unfolding onFour secondHalf alike isData isRead act
+  unfolding onFour secondHalf act
   second-completes u e f = on-four-lines (Half.InstructionWrite u) e f
 
   -- a half of another kind is forgotten
   pub data-disagrees : (u : ℕ) → r .bus ≡ Four → r .half ≡ Half.DataWrite u → stepOf (freed r) Kind.InstructionWrite n b ≡ forgotten 2 (freed r)
-  unfolding onFour secondHalf alike isData isRead
+  unfolding onFour secondHalf
   data-disagrees u e f = on-four-lines (Half.DataWrite u) e f
 
   pub status-disagrees : r .bus ≡ Four → r .half ≡ Half.StatusRead → stepOf (freed r) Kind.InstructionWrite n b ≡ forgotten 2 (freed r)
-  unfolding onFour secondHalf alike isData isRead
+  unfolding onFour secondHalf
   status-disagrees e f = on-four-lines Half.StatusRead e f
 
   pub read-disagrees : r .bus ≡ Four → r .half ≡ Half.DataRead → stepOf (freed r) Kind.InstructionWrite n b ≡ forgotten 2 (freed r)
-  unfolding onFour secondHalf alike isData isRead
+  unfolding onFour secondHalf
   read-disagrees e f = on-four-lines Half.DataRead e f

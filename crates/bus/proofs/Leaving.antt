@@ -4,17 +4,15 @@ use mathlib.Core.Path.{_≡_, refl}
 use mathlib.Core.Logic.{_⊎_, inl, inr, ⊎-elim}
 use native.Mathlib.Omega.{arith}
 use Rattle.controller.specs.declared.Controller.{Controller}
-use Rattle.controller.specs.declared.change.Change.{Change}
 use Rattle.controller.specs.declared.half.Half.{Half}
-use Rattle.controller.specs.declared.registers.Registers.{Registers}
-use Rattle.controller.specs.Part.{awaiting}
-use Rattle.controller.specs.Instructions.{Result, done}
+use Rattle.controller.specs.Instructions.{Result}
 use Rattle.bus.specs.declared.kind.Kind.{Kind}
 use Rattle.bus.specs.Memory.{displayAfter, characterAfter}
 use Rattle.bus.specs.Data.{writeData, readData, readStatus}
 use Rattle.bus.specs.Halves.{firstHalf}
-use Rattle.bus.specs.Transfer.{Told, stepOf, addressed, carried, waitOf, transferOf}
-use Rattle.bus.specs.Events.{Event, Transfer, Wait, toldBy}
+use Rattle.bus.specs.Transfer.{Told, stepOf, addressed, carried}
+use Rattle.bus.specs.declared.event.Event.the-variants.{Transfer, Wait}
+use Rattle.bus.specs.Events.{toldBy}
 use Rattle.bus.specs.Refusals.{completed}
 use Rattle.bus.specs.Theorems.{halved, Leaves, RefusalLeaves}
 use Rattle.bus.proofs.Outcomes.{Ways, of-act, of-step, of-transfer, of-wait}

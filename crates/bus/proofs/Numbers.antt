@@ -1,6 +1,6 @@
 -- Each number is given exactly when its rule says: one equation for the number, one computed test for all equivalences.
-use Prim.Native.Nat.{ℕ, _*_}
-use mathlib.Core.Path.{_≡_, refl, subst, sym}
+use Prim.Native.Nat.{ℕ}
+use mathlib.Core.Path.{_≡_, refl, subst, sym, ap, _∙_}
 use mathlib.Core.Logic.{_↔_}
 use mathlib.Core.Bool.{Bool, true, false, cond, _&&_, not, Bool·beq}
 use lib.Dec.{T, eqb, eqb→eq, eqb-refl}
@@ -8,16 +8,16 @@ use Rattle.place.proofs.Tests.{and-left, and-right}
 use Rattle.controller.specs.declared.Controller.{Controller}
 use Rattle.controller.specs.declared.half.Half.{Half}
 use Rattle.controller.specs.declared.half.LineCount.{LineCount}
-use Rattle.controller.specs.declared.half.LineCount.the-variants.{Eight, Four}
 use Rattle.controller.specs.declared.registers.Registers.{Registers}
 use Rattle.controller.specs.Part.{inRange}
 use Rattle.controller.specs.Instructions.{Result, decode, lacking, obey}
 use Rattle.bus.specs.declared.kind.Kind.{Kind}
 use Rattle.bus.specs.Data.{act, writeData, readData, readStatus, readOf}
-use Rattle.bus.specs.Halves.{alike, firstHalf, secondHalf, onFour, onBus, upper, lower}
+use Rattle.bus.specs.Halves.{answered, firstHalf, onBus}
 use Rattle.bus.specs.Transfer.{Told, refusedBusy, stepOf, addressed, transferOf, waitOf}
 use Rattle.bus.specs.Refusals.{completed, isFirst, disagrees, lacksAddress, Conditions, conditions, Exactly}
 use Rattle.bus.specs.Theorems.{GivenExactly, WaitGivenExactly}
+use Rattle.bus.proofs.Outcomes.{bus-joined}
 
 -- ---- the number of a transfer
 -- the first condition that holds decides
@@ -30,10 +30,6 @@ chosen : (b : Bool) (s t : Result) (m n : ℕ) → s .number ≡ m → t .number
 chosen true s t m n e f = e
 chosen false s t m n e f = f
 
-chosen-not : (b : Bool) (s t : Result) (m n : ℕ) → s .number ≡ m → t .number ≡ n → cond b s t .number ≡ cond (not b) n m
-chosen-not true s t m n e f = e
-chosen-not false s t m n e f = f
-
 module _ (r : Registers) (k : Kind) (n : ℕ) where
   act-number : (b : LineCount) (h : Half) (j : Kind) (v : ℕ) → act j r (completed b h n) v .number ≡ cond (lacksAddress (r .mode .lines) b h j n) 3 0
   unfolding act obey lacksAddress writeData readStatus readData
@@ -42,21 +38,12 @@ module _ (r : Registers) (k : Kind) (n : ℕ) where
   act-number b h Kind.StatusRead v = refl
   act-number b h Kind.DataRead v = refl
 
-  four-number : (h : Half) (v : ℕ)
-      → onFour h k r n v .number ≡ cond (disagrees Four h k) 2 (cond (isFirst Four h) 20 (cond (lacksAddress (r .mode .lines) Four h k n) 3 0))
-  unfolding onFour firstHalf secondHalf disagrees isFirst completed
-  four-number Half.Nothing v = refl
-  four-number (Half.InstructionWrite u) v =
-      chosen-not (alike Kind.InstructionWrite k) _ _ _ 2 (act-number Four (Half.InstructionWrite u) k (lower v * 16)) refl
-  four-number (Half.DataWrite u) v = chosen-not (alike Kind.DataWrite k) _ _ _ 2 (act-number Four (Half.DataWrite u) k (lower v * 16)) refl
-  four-number Half.StatusRead v = chosen-not (alike Kind.StatusRead k) _ _ _ 2 (act-number Four Half.StatusRead k (lower v * 16)) refl
-  four-number Half.DataRead v = chosen-not (alike Kind.DataRead k) _ _ _ 2 (act-number Four Half.DataRead k (lower v * 16)) refl
-
   bus-number : (b : LineCount) (v : ℕ)
       → onBus b k r n v .number ≡ cond (disagrees b (r .half) k) 2 (cond (isFirst b (r .half)) 20 (cond (lacksAddress (r .mode .lines) b (r .half) k n) 3 0))
-  unfolding onBus disagrees isFirst completed
-  bus-number Eight v = act-number Eight (r .half) k v
-  bus-number Four v = four-number (r .half) v
+  unfolding firstHalf
+  bus-number b v =
+      ap (λ (s : Result). s .number) (bus-joined k r n v b)
+      ∙ chosen (disagrees b (r .half) k) _ _ 2 _ refl (chosen (isFirst b (r .half)) _ _ 20 _ refl (act-number b (r .half) k (answered b v)))
 
 told-number : (b : Bool) (s t : Told) (m : ℕ) → s .number ≡ m → t .number ≡ 16 → cond b s t .number ≡ cond (not b) 16 m
 told-number true s t m e f = e

@@ -1,7 +1,7 @@
 -- Every transfer and every wait keeps a controller in range, and a part just switched on is in range.
-use Prim.Native.Nat.{ℕ, _-_, _≤_, _/_, _%_}
-use mathlib.Core.Path.{_≡_, refl}
-use mathlib.Core.Bool.{Bool, true, false, cond, not}
+use Prim.Native.Nat.{ℕ, _-_, _≤_, _%_}
+use mathlib.Core.Path.{_≡_}
+use mathlib.Core.Bool.{true, false, not}
 use mathlib.Core.List.{List, [], _∷_}
 use native.Mathlib.Omega.{arith}
 use lib.ListN.{replicate}
@@ -13,7 +13,7 @@ use Rattle.place.specs.declared.counter.Counter.the-variants.{Display, Characte
 use Rattle.place.specs.declared.shift.Shift.{Shift}
 use Rattle.place.specs.Address.{hasDisplay, hasCharacter}
 use Rattle.place.specs.Counter.{hasCounter, stepOf as counterStep}
-use Rattle.place.specs.Shift.{hasShift, moveOf}
+use Rattle.place.specs.Shift.{hasShift}
 use Rattle.place.proofs.Tests.{split, is-true, not-not, holds}
 use Rattle.place.proofs.Laws.{home-exists, no-shift-exists, step-exists, move-exists}
 use Rattle.controller.specs.declared.Controller.{Controller}
@@ -24,13 +24,15 @@ use Rattle.controller.specs.declared.instruction.Instruction.{Instruction}
 use Rattle.controller.specs.declared.instruction.Instruction.the-variants.{Nothing, Clear, Home, EntryMode, OnOff, Move, FunctionSet, SetCharacter, SetDisplay}
 use Rattle.controller.specs.declared.registers.Registers.{Registers}
 use Rattle.controller.specs.Part.{inRange, isFour, halfFits, waited, freshRegisters, freshWith, switchedOn, awaiting, placed}
-use Rattle.controller.specs.Instructions.{Result, decode, stepped, moved, rearranged, counterFor, shiftFor, effectOf, changeOf, ticksOf, lacking, obey, done}
+use Rattle.controller.specs.Instructions.{Result, decode, stepped, moved, rearranged, counterFor, shiftFor, effectOf, ticksOf, lacking}
 use Rattle.controller.proofs.Ranged.{InRange, facts, test}
 use Rattle.bus.specs.declared.kind.Kind.{Kind}
-use Rattle.bus.specs.Data.{act, shiftAfter, writeData, readData, readStatus}
+use Rattle.bus.specs.Data.{shiftAfter, writeData, readData, readStatus}
 use Rattle.bus.specs.Halves.{upper, halfOf, firstHalf}
-use Rattle.bus.specs.Transfer.{Told, stepOf, addressed, transferOf, waitOf}
-use Rattle.bus.specs.Events.{Event, Transfer, Wait, toldBy, run}
+use Rattle.bus.specs.Transfer.{Told, stepOf, addressed}
+use Rattle.bus.specs.declared.event.Event.{Event}
+use Rattle.bus.specs.declared.event.Event.the-variants.{Transfer, Wait}
+use Rattle.bus.specs.Events.{toldBy, run}
 use Rattle.bus.specs.Refusals.{completed, isFirst}
 use Rattle.bus.specs.Theorems.{RangeKept, ReachedInRange}
 use Rattle.bus.proofs.Outcomes.{Ways, of-act, of-step, of-transfer, of-wait}
@@ -147,7 +149,7 @@ ways-kept r f =
 
 -- ---- a first half waits on four lines only
 first-fits : (b : LineCount) (h : Half) (k : Kind) (n : ℕ) → T (isFirst b h) → T (halfFits b (halfOf k (upper n)))
-unfolding isFirst halfFits isFour halfOf
+unfolding halfFits isFour
 first-fits Eight h k n t = absurd t
 first-fits Four h Kind.InstructionWrite n t = le→leb (upper n) 15 (omega arith)
 first-fits Four h Kind.DataWrite n t = le→leb (upper n) 15 (omega arith)

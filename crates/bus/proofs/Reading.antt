@@ -1,8 +1,6 @@
 -- A data read never moves the display; a status read changes nothing but a half.
-use Prim.Native.Nat.{ℕ}
 use mathlib.Core.Path.{_≡_, refl}
 use Rattle.controller.specs.declared.Controller.{Controller}
-use Rattle.controller.specs.Instructions.{Result}
 use Rattle.bus.specs.declared.kind.Kind.{Kind}
 use Rattle.bus.specs.Memory.{displayAfter, characterAfter}
 use Rattle.bus.specs.Data.{act, readData, readStatus}

@@ -1,6 +1,6 @@
 -- "Instructions": data and status.
 use Prim.Native.Nat.{ℕ, _+_}
-use mathlib.Core.Bool.{Bool, cond, not}
+use mathlib.Core.Bool.{cond, not}
 use lib.Dec.{eqb}
 use Rattle.place.specs.declared.counter.Counter.{Counter}
 use Rattle.place.specs.declared.counter.Counter.the-variants.{Display, Character}

@@ -3,12 +3,9 @@ use Prim.Native.Nat.{ℕ, _+_}
 use mathlib.Core.List.{List, [], _∷_}
 use Rattle.controller.specs.declared.Controller.{Controller}
 use Rattle.controller.specs.Part.{switchedOn}
-use Rattle.bus.specs.declared.kind.Kind.{Kind}
+use Rattle.bus.specs.declared.event.Event.{Event}
+use Rattle.bus.specs.declared.event.Event.the-variants.{Transfer, Wait}
 use Rattle.bus.specs.Transfer.{Told, transferOf, waitOf}
-
-pub data Event : Type 0 where
-  Transfer : Kind → ℕ → Event
-  Wait : ℕ → Event
 
 unfoldable pub toldBy : Event → Controller → Told
 toldBy (Transfer k n) c = transferOf c k n

@@ -1,6 +1,6 @@
 -- "Halves": on four lines only the upper four lines count; the upper half of a byte comes first.
 use Prim.Native.Nat.{ℕ, _+_, _*_, _/_, _%_}
-use mathlib.Core.Bool.{Bool, true, false, cond, _&&_, not, Bool·beq}
+use mathlib.Core.Bool.{Bool, true, false, cond, _&&_, Bool·beq}
 use Rattle.bus.specs.declared.kind.Kind.{Kind}
 use Rattle.controller.specs.declared.half.Half.{Half}
 use Rattle.controller.specs.declared.half.LineCount.{LineCount}
@@ -12,14 +12,14 @@ use Rattle.controller.specs.Instructions.{Result, forgotten}
 use Rattle.bus.specs.Data.{act}
 
 -- RS
-unfoldable pub isData : Kind → Bool
+abbrev pub isData : Kind → Bool
 isData Kind.InstructionWrite = false
 isData Kind.DataWrite = true
 isData Kind.StatusRead = false
 isData Kind.DataRead = true
 
 -- R/W
-unfoldable pub isRead : Kind → Bool
+abbrev pub isRead : Kind → Bool
 isRead Kind.InstructionWrite = false
 isRead Kind.DataWrite = false
 isRead Kind.StatusRead = true
@@ -31,23 +31,36 @@ upper n = n / 16 % 16
 abbrev pub lower : ℕ → ℕ
 lower n = n % 16
 
-unfoldable pub halfOf : Kind → ℕ → Half
+abbrev pub halfOf : Kind → ℕ → Half
 halfOf Kind.InstructionWrite u = Half.InstructionWrite u
 halfOf Kind.DataWrite u = Half.DataWrite u
 halfOf Kind.StatusRead u = Half.StatusRead
 halfOf Kind.DataRead u = Half.DataRead
+
+-- the number that a half holds, for a read always 0
+abbrev pub upperOf : Half → ℕ
+upperOf Half.Nothing = 0
+upperOf (Half.InstructionWrite u) = u
+upperOf (Half.DataWrite u) = u
+upperOf Half.StatusRead = 0
+upperOf Half.DataRead = 0
 
 -- the first half waits and costs no ticks; a read answers the upper half of its value, in the upper four bits with zeros below
 unfoldable pub firstHalf : Kind → Registers → (n v : ℕ) → Result
 firstHalf k r n v = record { number = 20; value = upper v * 16; registers = awaiting r (halfOf k (upper n)) (r .busy); change = Change.Nothing }
 
 -- a second half with the same RS and R/W as the first
-unfoldable pub alike : Kind → Kind → Bool
+abbrev pub alike : Kind → Kind → Bool
 alike w k = Bool·beq (isData w) (isData k) && Bool·beq (isRead w) (isRead k)
 
 -- the second completes the byte, which acts as it would on eight lines; a read answers the lower half; another kind completes nothing (refusal 2)
 unfoldable pub secondHalf : Kind → ℕ → Kind → Registers → (n v : ℕ) → Result
 secondHalf w u k r n v = cond (alike w k) (act k r (u * 16 + upper n) (lower v * 16)) (forgotten 2 r)
+
+-- what a read answers with the transfer that completes it
+abbrev pub answered : LineCount → ℕ → ℕ
+answered Eight v = v
+answered Four v = lower v * 16
 
 unfoldable pub onFour : Half → Kind → Registers → (n v : ℕ) → Result
 onFour Half.Nothing k r n v = firstHalf k r n v

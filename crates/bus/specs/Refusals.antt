@@ -9,24 +9,19 @@ use Rattle.controller.specs.declared.Controller.{Controller}
 use Rattle.controller.specs.declared.half.Half.{Half}
 use Rattle.controller.specs.declared.half.LineCount.{LineCount}
 use Rattle.controller.specs.declared.half.LineCount.the-variants.{Eight, Four}
-use Rattle.controller.specs.declared.registers.Registers.{Registers}
-use Rattle.controller.specs.Part.{inRange, isFour}
+use Rattle.controller.specs.Part.{inRange}
 use Rattle.controller.specs.Instructions.{decode, lacking}
 use Rattle.bus.specs.declared.kind.Kind.{Kind}
-use Rattle.bus.specs.Halves.{isData, isRead, alike, upper}
-use Rattle.bus.specs.Transfer.{refusedBusy, transferOf}
+use Rattle.bus.specs.Halves.{upper, upperOf, alike}
+use Rattle.bus.specs.Transfer.{refusedBusy}
 
 -- the byte that a transfer completes: on eight lines the number itself, on four the half that waits and the upper four lines
-unfoldable pub completed : LineCount → Half → ℕ → ℕ
+abbrev pub completed : LineCount → Half → ℕ → ℕ
 completed Eight h n = n
-completed Four Half.Nothing n = n
-completed Four (Half.InstructionWrite u) n = u * 16 + upper n
-completed Four (Half.DataWrite u) n = u * 16 + upper n
-completed Four Half.StatusRead n = 0 * 16 + upper n
-completed Four Half.DataRead n = 0 * 16 + upper n
+completed Four h n = upperOf h * 16 + upper n
 
 -- the first half of a byte: four lines, and no half waits
-unfoldable pub isFirst : LineCount → Half → Bool
+abbrev pub isFirst : LineCount → Half → Bool
 isFirst Eight h = false
 isFirst Four Half.Nothing = true
 isFirst Four (Half.InstructionWrite u) = false
@@ -35,7 +30,7 @@ isFirst Four Half.StatusRead = false
 isFirst Four Half.DataRead = false
 
 -- four lines, halves disagree
-unfoldable pub disagrees : LineCount → Half → Kind → Bool
+abbrev pub disagrees : LineCount → Half → Kind → Bool
 disagrees Eight h k = false
 disagrees Four Half.Nothing k = false
 disagrees Four (Half.InstructionWrite u) k = not (alike Kind.InstructionWrite k)

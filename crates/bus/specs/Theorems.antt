@@ -2,8 +2,8 @@
 use Prim.Native.Nat.{ℕ, _-_, _≤_}
 use mathlib.Core.Path.{_≡_}
 use mathlib.Core.Logic.{_⊎_, _≢_}
-use mathlib.Core.Bool.{Bool, true, false, _&&_, cond, not}
-use mathlib.Core.List.{List, [], _∷_}
+use mathlib.Core.Bool.{Bool, false, _&&_, cond, not}
+use mathlib.Core.List.{List}
 use lib.ListN.{getD, replicate}
 use lib.Dec.{T, eqb}
 use Rattle.place.specs.declared.LineMode.{LineMode}
@@ -13,7 +13,6 @@ use Rattle.place.specs.Address.{cellOf}
 use Rattle.controller.specs.declared.Controller.{Controller}
 use Rattle.controller.specs.declared.effect.Effect.{Effect}
 use Rattle.controller.specs.declared.half.Half.{Half}
-use Rattle.controller.specs.declared.registers.Registers.{Registers}
 use Rattle.controller.specs.Part.{inRange, awaiting}
 use Rattle.controller.specs.Instructions.{decode, ticksOf, resultOf}
 use Rattle.bus.specs.declared.Outcome.{Outcome}
@@ -21,7 +20,8 @@ use Rattle.bus.specs.declared.kind.Kind.{Kind}
 use Rattle.bus.specs.declared.turn.Turned.{Turned}
 use Rattle.bus.specs.Halves.{isRead}
 use Rattle.bus.specs.Transfer.{Told, told, toldWith, transferOf, waitOf}
-use Rattle.bus.specs.Events.{Event, toldBy, run, reached, waits, sum}
+use Rattle.bus.specs.declared.event.Event.{Event}
+use Rattle.bus.specs.Events.{toldBy, reached, waits, sum}
 use Rattle.bus.specs.Refusals.{completed, conditions, Exactly}
 
 -- ---- range

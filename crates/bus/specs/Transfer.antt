@@ -1,6 +1,6 @@
 -- "Refusal numbers": one transfer and one wait, with the refusals in their order: 16 first, then the lower number.
 use Prim.Native.Nat.{ℕ}
-use mathlib.Core.Bool.{Bool, true, false, cond, _&&_, not}
+use mathlib.Core.Bool.{Bool, cond, _&&_, not}
 use mathlib.Core.List.{List}
 use lib.Dec.{eqb}
 use Rattle.controller.specs.declared.Controller.{Controller}
@@ -16,7 +16,7 @@ use Rattle.controller.specs.Instructions.{Result}
 use Rattle.bus.specs.Data.{readOf}
 use Rattle.bus.specs.Halves.{isData, isRead, onBus}
 
-unfoldable pub isStatus : Kind → Bool
+abbrev pub isStatus : Kind → Bool
 isStatus k = not (isData k) && isRead k
 
 -- 1: busy, and the transfer is no status read

@@ -39,7 +39,12 @@ impl Kind {
     pub(crate) fn is_status(self) -> bool
         ensures { λ r. ⌜ r ≡ isStatus self ⌝ }
     {
-        !self.is_data() & self.is_read()
+        match self {
+            Kind::InstructionWrite => false,
+            Kind::DataWrite => false,
+            Kind::StatusRead => true,
+            Kind::DataRead => false,
+        }
     }
 
     // Whether a second half of this kind completes a first half of that one.

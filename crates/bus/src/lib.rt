@@ -3,6 +3,8 @@ ghost use mathlib.Core.Path.{_≡_};
 ghost use Rattle.bus.specs.Transfer.{told, transferOf, waitOf};
 
 mod data;
+pub mod event;
+mod halves;
 pub mod kind;
 mod memory;
 mod step;
@@ -30,7 +32,7 @@ pub fn transfer(controller: Controller, kind: Kind, value: u8) -> Outcome
     }
     let mut display = controller.display;
     let mut character = controller.character;
-    let turned = turn::turn(&mut display, &mut character, registers, kind, value);
+    let turned = turn::transferred(&mut display, &mut character, registers, kind, value);
     let after = turned.registers;
     let answer = turned.answer;
     Outcome {

@@ -1,20 +1,18 @@
-// One transfer over the registers: busy first, then halves, then the whole byte. No memory is touched.
+// One transfer over the registers: halves, then the whole byte. No memory is touched.
 ghost use mathlib.Core.Path.{_≡_};
-ghost use mathlib.Core.Bool.{true};
-ghost use Prim.Native.Nat.{_≤_};
+ghost use mathlib.Core.Bool.{true, false};
 ghost use Rattle.controller.specs.Part.{inRange};
 ghost use Rattle.controller.specs.Instructions.{resultOf};
 ghost use Rattle.bus.specs.Data.{act as actOf};
-ghost use Rattle.bus.specs.Halves.{firstHalf, secondHalf, onBus};
-ghost use Rattle.bus.specs.Transfer.{stepOf};
+ghost use Rattle.bus.specs.Halves.{firstHalf};
+ghost use Rattle.bus.specs.Transfer.{refusedBusy, stepOf};
 use super::data;
+use super::halves;
 use super::kind::Kind;
 use controller::answer::Answer;
 use controller::change::Change;
 use controller::effect::Effect;
 use controller::effect::forgotten;
-use controller::half::Half;
-use controller::half::LineCount;
 use controller::instruction::decode;
 use controller::obey::obey;
 use controller::registers::Registers;
@@ -44,61 +42,31 @@ fn first_half(registers: Registers, kind: Kind, byte: u8, value: u8) -> Effect
     }
 }
 
-fn second_half(
-    registers: Registers,
-    first: Kind,
-    upper: u8,
-    kind: Kind,
-    byte: u8,
-    value: u8,
-) -> Effect
-    requires { ⌜ upper ≤ 15 ⌝ }
-    ensures { λ r. ⌜ resultOf r ≡ secondHalf first upper kind registers byte value ⌝ }
+// Only a status read is taken while the part is busy.
+pub(crate) fn refused_busy(registers: Registers, kind: Kind) -> bool
+    ensures { λ r. ⌜ r ≡ refusedBusy registers kind ⌝ }
 {
-    if kind.alike(first) {
-        act(registers, kind, upper * 16 + byte / 16, value % 16 * 16)
-    } else {
-        forgotten(Answer::HalvesDisagree, registers)
-    }
+    (registers.busy != 0) & !kind.is_status()
 }
 
-fn on_four(registers: Registers, kind: Kind, byte: u8, value: u8) -> Effect
-    requires { ⌜ inRange registers ≡ true ⌝ }
-    ensures { λ r. ⌜ resultOf r ≡ onBus LineCount.Four kind registers byte value ⌝ }
-{
-    let half = registers.half;
-    match half {
-        Half::Nothing => first_half(registers, kind, byte, value),
-        Half::InstructionWrite(upper) => second_half(
-            registers,
-            Kind::InstructionWrite,
-            upper,
-            kind,
-            byte,
-            value,
-        ),
-        Half::DataWrite(upper) => second_half(registers, Kind::DataWrite, upper, kind, byte, value),
-        Half::StatusRead => second_half(registers, Kind::StatusRead, 0, kind, byte, value),
-        Half::DataRead => second_half(registers, Kind::DataRead, 0, kind, byte, value),
-    }
-}
-
-// The counter addresses this byte. Whoever runs many transfers tests the range once: a step keeps it.
+// The counter addresses this byte.
 pub(crate) fn step(registers: Registers, kind: Kind, value: u8, addressed: u8) -> Effect
-    requires { ⌜ inRange registers ≡ true ⌝ }
+    requires { ⌜ (inRange registers ≡ true) × (refusedBusy registers kind ≡ false) ⌝ }
     ensures { λ r. ⌜ resultOf r ≡ stepOf registers kind value addressed ⌝ }
 {
-    if (registers.busy != 0) & !kind.is_status() {
-        return Effect {
-            registers,
-            answer: Answer::Busy,
-            change: Change::Nothing,
-        };
-    }
     let read = data::value_read(registers, kind, addressed);
     let bus = registers.bus;
-    match bus {
-        LineCount::Eight => act(registers, kind, value, read),
-        LineCount::Four => on_four(registers, kind, value, read),
+    let half = registers.half;
+    if halves::disagrees(bus, half, kind) {
+        return forgotten(Answer::HalvesDisagree, registers);
     }
+    if halves::is_first(bus, half) {
+        return first_half(registers, kind, value, read);
+    }
+    act(
+        registers,
+        kind,
+        halves::completed(bus, half, value),
+        halves::answered(bus, read),
+    )
 }

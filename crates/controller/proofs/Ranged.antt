@@ -1,15 +1,13 @@
 -- The test `inRange`, taken apart and put together.
-use Prim.Native.Nat.{ℕ, _≤_}
-use mathlib.Core.Path.{_≡_, subst}
+use Prim.Native.Nat.{_≤_}
+use mathlib.Core.Path.{_≡_}
 use mathlib.Core.Bool.{Bool, true, _&&_}
 use lib.Dec.{T, leb, leb→le, le→leb}
 use Rattle.place.specs.Counter.{hasCounter}
 use Rattle.place.specs.Shift.{hasShift}
 use Rattle.place.proofs.Tests.{holds, is-true, and-left, and-right, and-both}
-use Rattle.controller.specs.declared.half.Half.{Half}
-use Rattle.controller.specs.declared.half.LineCount.{LineCount}
 use Rattle.controller.specs.declared.registers.Registers.{Registers}
-use Rattle.controller.specs.Part.{inRange, isFour, halfFits}
+use Rattle.controller.specs.Part.{inRange, halfFits}
 
 pub record InRange (r : Registers) : Type 0 where
   pub counter : T (hasCounter (r .mode .lines) (r .counter))
@@ -51,11 +49,3 @@ module _ (r : Registers) where
 
 pub counter-exists : (r : Registers) → inRange r ≡ true → hasCounter (r .mode .lines) (r .counter) ≡ true
 counter-exists r t = is-true _ (facts r (holds (inRange r) t) .counter)
-
--- the number of a waiting half that fits
-half-small : (b : LineCount) (u : ℕ) → T (isFour b && leb u 15) → u ≤ 15
-half-small b u t = leb→le u 15 (and-right (isFour b) (leb u 15) t)
-
-pub half-below : (r : Registers) (u : ℕ) {h : Half} → inRange r ≡ true → r .half ≡ h → halfFits (r .bus) h ≡ (isFour (r .bus) && leb u 15) → u ≤ 15
-half-below r u t e f =
-    half-small (r .bus) u (subst T f (subst (λ h. T (halfFits (r .bus) h)) e (facts r (holds (inRange r) t) .half)))

@@ -16,7 +16,6 @@ use Rattle.controller.specs.declared.half.LineCount.the-variants.{Eight,
 use Rattle.controller.specs.declared.instruction.Instruction.{Instruction}
 use Rattle.controller.specs.declared.instruction.Instruction.the-variants.{Nothing, Clear, Home, EntryMode, OnOff, Move, FunctionSet, SetCharacter, SetDisplay}
 use Rattle.controller.specs.declared.change.Change.{Change}
-use Rattle.controller.specs.declared.registers.Mode.{Mode}
 use Rattle.controller.specs.declared.registers.Registers.{Registers}
 use Rattle.controller.specs.declared.effect.Effect.{Effect}
 use Rattle.controller.specs.Answers.{numberOf, valueOf}

@@ -1,48 +1,72 @@
--- Laws of the dots: rows with a mark, and the definition's rows from the codes and the marked digit that the code holds.
-use Prim.Native.Nat.{ℕ, _*_, _%_, _<_}
-use mathlib.Core.Path.{_≡_, refl, _∙_}
+-- Laws of the dots: the definition's rows from the patterns and the mark that the code draws.
+use Prim.Native.Nat.{ℕ, _+_, _*_, _%_, _<_, _≤_}
+use mathlib.Core.Path.{_≡_, refl, ap, subst, sym, _∙_}
 use mathlib.Core.Bool.{Bool, true, false, cond, _&&_}
 use mathlib.Core.List.{List}
 use native.Mathlib.Nat.{mul-assoc}
+use native.Mathlib.Omega.{arith}
 use lib.Dec.{eqb}
-use lib.ListN.{length, getD, set, replicate}
+use lib.ListN.{length, getD, replicate}
+use borrow.Author.Tests.{eq-eqb, ne-eqb, eqb-true, eqb-false}
 use Rattle.controller.specs.declared.Controller.{Controller}
 use Rattle.picture.specs.declared.Phase.{Phase}
 use Rattle.picture.specs.declared.mark.Mark.{Mark}
-use Rattle.picture.specs.Table.{table, parts}
+use Rattle.picture.specs.Table.{table, parts, Column}
 use Rattle.picture.specs.Digit.{shownOn}
 use Rattle.picture.specs.Picture.{isDark, rowsOf, bytesOf, patternOf, isMarked, isSet, fiveOf, cellDots, dotsAt, pictureOf}
-use Rattle.picture.proofs.Lists.{length-parts, length-table, parts-same, parts-replicate, table-same, table-set, table-replicate}
+use Rattle.picture.proofs.Lists.{length-parts, length-table, parts-same, parts-replicate, table-same, table-replicate}
+use Rattle.picture.proofs.Columns.{columns-rows}
 
--- ---- a row, where the digit k is marked
-plain : (b t : Bool) (p : ℕ) → t ≡ false → p % 0x20 ≡ fiveOf (b && t) p
+-- ---- a byte, where the digit is marked or not
+plain : (b t : Bool) (p : ℕ) → b ≡ false → p % 0x20 ≡ fiveOf (b && t) p
 unfolding fiveOf
-plain true t p e = rw e
-plain false t p e = refl
+plain b t p e = rw e
 
-full : (b t : Bool) (p : ℕ) → t ≡ true → cond b 0x1F (p % 0x20) ≡ fiveOf (b && t) p
+full : (b t : Bool) (p : ℕ) → b ≡ true → cond t 0x1F (p % 0x20) ≡ fiveOf (b && t) p
 unfolding fiveOf
-full true t p e = rw e
-full false t p e = refl
+full b t p e = rw e
 
-module _ (n k : ℕ) (p : ℕ → ℕ) (t : Bool) (out : List ℕ) (drawn : out ≡ table n (λ d. p d % 0x20)) where
-  pub row-kept : t ≡ false → out ≡ table n (λ d. fiveOf (eqb d k && t) (p d))
-  row-kept e = drawn ∙ table-same n _ _ (λ d l. plain (eqb d k) t (p d) e)
+-- ---- a line, from its patterns and its mark
+module _ (c : Controller) (rom : List ℕ) (phase : Phase) (line digits rows : ℕ) (mark : Mark) where
+  abbrev pub patternAt : (digit row : ℕ) → ℕ
+  patternAt d q = patternOf (c .character) rom rows (getD (c .display) (shownOn (c .registers .mode .lines) (c .registers .shift) line d .0) 0) q
 
-  pub row-set : (after : List ℕ) → after ≡ set out k 0x1F → t ≡ true → after ≡ table n (λ d. fiveOf (eqb d k && t) (p d))
-  row-set after m e = m ∙ rw drawn (table-set n k 0x1F (λ d. p d % 0x20)) ∙ table-same n _ _ (λ d l. full (eqb d k) t (p d) e)
+  markedAt : (digit row : ℕ) → ℕ
+  markedAt d q = fiveOf (eqb d (mark .digit) && isSet (mark .cursor) (mark .blink) rows q) (patternAt d q)
 
--- ---- a line, from the codes that its digits show and from its mark
-pub line-dots : (c : Controller) (rom : List ℕ) (phase : Phase) (line digits rows : ℕ) (codes out : List ℕ) (mark : Mark)
-    → c .registers .lights .display ≡ true
-    → rows ≡ rowsOf (c .registers .mode)
-    → ((d : ℕ) → d < digits → getD codes d 0 ≡ getD (c .display) (shownOn (c .registers .mode .lines) (c .registers .shift) line d .0) 0)
-    → (mark .cursor ≡ c .registers .lights .cursor) × (mark .blink ≡ c .registers .lights .blink && isDark phase) × ((d : ℕ) → d < digits → eqb d (mark .digit) ≡ isMarked (c .registers) (shownOn (c .registers .mode .lines) (c .registers .shift) line d))
-    → out ≡ parts rows (λ row. table digits (λ d. fiveOf (eqb d (mark .digit) && isSet (mark .cursor) (mark .blink) rows row) (patternOf (c .character) rom rows (getD codes d 0) row)))
-    → out ≡ parts (rowsOf (c .registers .mode)) (λ row. table digits (dotsAt c rom phase line row))
-unfolding dotsAt cellDots
-line-dots c rom phase line digits rows codes out mark on r k m o =
-    o ∙ rw r (parts-same _ _ _ (λ row _. table-same digits _ _ (λ d l. simp (on, k d l, m .0, m .1, m .2 d l))))
+  abbrev pub Patterns : List ℕ → Type 0
+  Patterns out = (d : ℕ) → d < digits → (q : ℕ) → q < rows → getD out (q * digits + d) 0 ≡ patternAt d q % 0x20
+
+  abbrev pub Marked : (before after : List ℕ) → Type 0
+  Marked before after = Column (λ q. cond (isSet (mark .cursor) (mark .blink) rows q) 0x1F (getD before (q * digits + mark .digit) 0)) rows digits (mark .digit) before after
+
+  module _ (out : List ℕ) (drawn : Patterns out) where
+    unmarked : digits ≤ mark .digit → (d : ℕ) → d < digits → (q : ℕ) → q < rows → getD out (q * digits + d) 0 ≡ markedAt d q
+    unfolding markedAt
+    unmarked past d hd q hq = drawn d hd q hq ∙ plain _ _ _ (ne-eqb d (mark .digit) (λ e. omega arith))
+
+    marked-from : (after : List ℕ) → Marked out after → mark .digit < digits → (t : Bool) (d : ℕ) → eqb d (mark .digit) ≡ t → d < digits → (q : ℕ) → q < rows → getD after (q * digits + d) 0 ≡ markedAt d q
+    unfolding markedAt
+    marked-from after m here true d e hd q hq =
+        subst (λ (j : ℕ). getD after (q * digits + j) 0 ≡ markedAt j q) (sym (eqb-true d (mark .digit) e))
+        (m .drawn q hq ∙ ap (λ (v : ℕ). cond (isSet (mark .cursor) (mark .blink) rows q) 0x1F v) (drawn (mark .digit) here q hq) ∙ full _ _ _ (eq-eqb (mark .digit) (mark .digit) refl))
+    marked-from after m here false d e hd q hq = m .kept q d hd (eqb-false d (mark .digit) e) ∙ drawn d hd q hq ∙ plain _ _ _ e
+
+  module _ (on : c .registers .lights .display ≡ true) (r : rows ≡ rowsOf (c .registers .mode))
+      (m : (mark .cursor ≡ c .registers .lights .cursor) × (mark .blink ≡ c .registers .lights .blink && isDark phase) × ((d : ℕ) → d < digits → eqb d (mark .digit) ≡ isMarked (c .registers) (shownOn (c .registers .mode .lines) (c .registers .shift) line d)))
+      (before : List ℕ) (drawn : Patterns before) where
+    line-dots : (out : List ℕ) → length out ≡ rows * digits → ((d : ℕ) → d < digits → (q : ℕ) → q < rows → getD out (q * digits + d) 0 ≡ markedAt d q)
+        → out ≡ parts (rowsOf (c .registers .mode)) (λ row. table digits (dotsAt c rom phase line row))
+    unfolding dotsAt cellDots markedAt
+    line-dots out long at =
+        columns-rows markedAt rows digits out long at ∙ rw r (parts-same _ _ _ (λ row _. table-same digits _ _ (λ d l. simp (on, m .0, m .1, m .2 d l))))
+
+    pub line-unmarked : digits ≤ mark .digit → length before ≡ rows * digits → before ≡ parts (rowsOf (c .registers .mode)) (λ row. table digits (dotsAt c rom phase line row))
+    line-unmarked past long = line-dots before long (unmarked before drawn past)
+
+    pub line-marked : (after : List ℕ) → mark .digit < digits → length after ≡ rows * digits → Marked before after
+        → after ≡ parts (rowsOf (c .registers .mode)) (λ row. table digits (dotsAt c rom phase line row))
+    line-marked after here long w = line-dots after long (λ d hd. marked-from before drawn after w here (eqb d (mark .digit)) d refl hd)
 
 -- ---- the whole picture
 pub length-picture : (c : Controller) (digits : ℕ) (rom : List ℕ) (phase : Phase) → length (pictureOf c digits rom phase) ≡ bytesOf (c .registers .mode) digits

@@ -1,4 +1,5 @@
 pub mod Lists
+pub mod Columns
 pub mod Marks
 pub mod Dots
 pub mod Promise

@@ -1,18 +1,14 @@
 -- Laws of lists made in order, part by part and value by value.
 use Prim.Native.Nat.{ℕ, zero, suc, _+_, _*_, _-_, _<_, _≤_}
 use mathlib.Core.Path.{_≡_, refl, ap, sym, _∙_}
-use mathlib.Core.Bool.{cond}
 use mathlib.Core.List.{List, [], _∷_, _++_, append-assoc, append-nil}
 use mathlib.Core.Logic.{⊎-elim}
 use native.Mathlib.Nat.{zero-mul, suc-mul, mul-one, add-zero, add-sub-cancel-left, not-suc-le-zero, le-of-suc-le-suc, eq-or-lt-of-le}
 use native.Mathlib.Numerals.{add-one}
 use native.Mathlib.Omega.{arith}
 use lib.Arith.{digits-lt}
-use lib.Dec.{eqb, eqb→eq}
 use lib.ListN.{length, take, drop, getD, set, replicate, length-append, length-take, length-drop, length-set, List·getD-append, replicate-append-replicate}
-use lib.Seq.{take-at, drop-at, drop-drop, drop-length, set-at, drop-cons, getD-append-add, getD-set-same, getD-set-other, ext-getD}
-use borrow.Author.Tests.{eqb-false}
-use Rattle.place.proofs.Tests.{split, is-false}
+use lib.Seq.{take-at, drop-at, drop-drop, drop-length, set-at, drop-cons, getD-append-add}
 use Rattle.picture.specs.Table.{table, parts}
 
 -- ---- parts of s elements each
@@ -102,25 +98,10 @@ pub filled-next : (f : ℕ → ℕ) (d out : List ℕ) (k v : ℕ) → Filled f 
 filled-next f d out k v t h e =
     (omega arith, simp length-set (t .1), table-store f d out k v (omega arith) (t .2) e)
 
-pub filled-at : (f : ℕ → ℕ) (d out : List ℕ) (k i : ℕ) → Filled f d out k → i < k → getD out i 0 ≡ f i
-filled-at f d out k i t h = rw (t .2) (List·getD-append (table k f) (drop k d) 0 i (rw (length-table k f) h) ∙ table-at k f i h)
-
 pub filled-whole : (f : ℕ → ℕ) (d out : List ℕ) (k n : ℕ) → Filled f d out k → length out ≤ k → n ≡ length d → out ≡ table n f
 filled-whole f d out k n t h e =
     let whole : k ≡ length d = omega arith in
     t .2 ∙ rw (whole, drop-length, append-nil, e)
-
--- a store of a value anywhere
-pub table-set : (n k v : ℕ) (f : ℕ → ℕ) → set (table n f) k v ≡ table n (λ d. cond (eqb d k) v (f d))
-table-set n k v f =
-    ext-getD 0 _ _
-    (simp (length-set, length-table))
-    (λ i h.
-    let l : i < n = simp (length-set, length-table) at h in
-    split (λ (w : ℕ). getD (set (table n f) k v) i 0 ≡ w) (eqb i k)
-    (λ t. rw (eqb→eq i k t) (getD-set-same (table n f) k v 0 (omega (arith, length-table n f, eqb→eq i k t))))
-    (λ t. getD-set-other (table n f) k i v 0 (eqb-false i k (is-false (eqb i k) t)) ∙ table-at n f i l)
-    ∙ sym (table-at n (λ d. cond (eqb d k) v (f d)) i l))
 
 -- ---- one value throughout
 pub parts-replicate : (n s a : ℕ) → parts n (λ k. replicate s a) ≡ replicate (n * s) a

@@ -9,9 +9,8 @@ use lib.ListN.{length, drop}
 use Rattle.place.specs.declared.LineMode.{LineMode}
 use Rattle.place.specs.declared.LineMode.the-variants.{One, Two}
 use Rattle.place.specs.declared.shift.Shift.{Shift}
-use Rattle.place.specs.Counter.{hasCounter}
 use Rattle.place.specs.Shift.{lastShift, hasShift}
-use Rattle.place.proofs.Tests.{holds, and-left, and-right}
+use Rattle.place.proofs.Tests.{holds, and-right}
 use Rattle.controller.specs.declared.Controller.{Controller}
 use Rattle.controller.specs.declared.registers.Registers.{Registers}
 use Rattle.controller.specs.Part.{inRange}

@@ -1,10 +1,11 @@
 // The picture: the dots of every digit, one byte a digit and row.
-ghost use Rattle.picture.specs.Answers.{Pictured};
+ghost use mathlib.Core.Path.{_≡_};
+ghost use Rattle.picture.specs.Answers.{numberOf, Pictured};
 
+mod column;
 mod digit;
 mod line;
 mod mark;
-mod row;
 mod screen;
 pub mod size;
 
@@ -22,6 +23,21 @@ pub enum Answer {
     Rom,
     Short,
     NotInRange,
+}
+
+impl Answer {
+    // This paper's number.
+    pub fn number(self) -> u8
+        ensures { λ r. ⌜ r ≡ numberOf self ⌝ }
+    {
+        match self {
+            Answer::Done => 0,
+            Answer::Digits => 4,
+            Answer::Rom => 5,
+            Answer::Short => 6,
+            Answer::NotInRange => 16,
+        }
+    }
 }
 
 // Writes lines x rows x digits bytes in the order line, row, digit; a refusal writes none.

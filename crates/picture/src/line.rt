@@ -1,58 +1,44 @@
-// One line: the codes that its digits show, then its rows, one behind the other.
+// One line: its digits' columns, then the mark.
 ghost use mathlib.Core.Path.{_≡_};
-ghost use mathlib.Core.Bool.{true, _&&_};
-ghost use Prim.Native.Nat.{ℕ, _≤_, _<_, _*_};
-ghost use lib.Dec.{eqb};
+ghost use mathlib.Core.Bool.{true};
+ghost use Prim.Native.Nat.{ℕ, _+_, _*_, _%_, _≤_, _<_};
 ghost use lib.ListN.{length, getD};
 ghost use Rattle.picture.specs.Digit.{linesOf, mostDigits, shownOn};
 ghost use Rattle.picture.specs.Table.{table, parts};
-ghost use Rattle.picture.specs.Picture.{rowsOf, patternOf, isSet, fiveOf, dotsAt};
+ghost use Rattle.picture.specs.Picture.{rowsOf, patternOf, dotsAt};
 ghost use Rattle.picture.specs.Answers.{Asked};
 use super::Phase;
+use super::column::draw_column;
 use super::digit::shown;
 use super::mark::Mark;
-use super::row::draw_row;
+use super::mark::draw_mark;
 use super::size::row_count;
 use controller::Controller;
 use place::LineMode;
 use place::shift::Shift;
 
-// The code that each digit shows; behind the last digit, nothing of meaning.
-fn line_codes(display: &[u8; 80], lines: LineMode, shift: Shift, line: u8, digits: u8) -> [u8; 80]
-    requires { ⌜ (shift .0 < mostDigits lines) × (line < linesOf lines) × (digits ≤ mostDigits lines) ⌝ }
-    ensures { λ r. ⌜ ((d : ℕ) → d < digits → getD r d 0 ≡ getD (now (display .entry)) (shownOn lines shift line d .0) 0) ⌝ }
+// The pattern of each digit's code.
+fn draw_columns<'a>(
+    display: &'a [u8; 80],
+    character: &'a [u8; 64],
+    rom: &[u8],
+    lines: LineMode,
+    shift: Shift,
+    line: u8,
+    rows: usize,
+    digits: u8,
+    out: &mut [u8],
+)
+    requires { ⌜ (length (now rom) ≡ 4096) × (shift .0 < mostDigits lines) × (line < linesOf lines) × (rows ≤ 11) × (digits ≤ mostDigits lines) × (length (now out) ≡ rows * digits) ⌝ }
+    ensures { λ _. ⌜ ((d : ℕ) → d < digits → (row : ℕ) → row < rows → getD (now (out .exit)) (row * digits + d) 0 ≡ patternOf (now (character .entry)) (now (rom .entry)) rows (getD (now (display .entry)) (shownOn lines shift line d .0) 0) row % 0x20) ⌝ }
 {
-    let mut codes = [0u8; 80];
     let mut digit = 0;
     while digit < digits {
         let cell = shown(lines, shift, line, digit);
-        let from = cell.0 as usize;
+        let at = cell.0 as usize;
         let to = digit as usize;
-        codes[to] = display[from];
+        draw_column(character, rom, rows, digits as usize, display[at], to, out);
         digit += 1;
-    }
-    codes
-}
-
-fn draw_rows(
-    codes: &[u8; 80],
-    character: &[u8; 64],
-    rom: &[u8],
-    mark: Mark,
-    rows: usize,
-    digits: usize,
-    out: &mut [u8],
-)
-    requires { ⌜ (length (now rom) ≡ 4096) × (rows ≤ 11) × (digits ≤ 80) × (length (now out) ≡ rows * digits) ⌝ }
-    ensures { λ _. ⌜ now (out .exit) ≡ parts rows (λ row. table digits (λ d. fiveOf (eqb d (mark .digit) && isSet (mark .cursor) (mark .blink) rows row) (patternOf (now (character .entry)) (now (rom .entry)) rows (getD (now (codes .entry)) d 0) row))) ⌝ }
-{
-    let mut row = 0;
-    let mut at = 0;
-    while row < rows {
-        let end = at + digits;
-        draw_row(codes, character, rom, mark, rows, row, &mut out[at..end]);
-        at = end;
-        row += 1;
     }
 }
 
@@ -71,15 +57,20 @@ pub(crate) fn draw_line(
     let mode = registers.mode;
     let lines = mode.lines;
     let shift = registers.shift;
-    let codes = line_codes(&controller.display, lines, shift, line, digits);
-    let mark = Mark::new(registers, phase, line, digits);
-    draw_rows(
-        &codes,
+    let rows = row_count(mode);
+    draw_columns(
+        &controller.display,
         &controller.character,
         rom,
-        mark,
-        row_count(mode),
-        digits as usize,
+        lines,
+        shift,
+        line,
+        rows,
+        digits,
         out,
     );
+    let mark = Mark::new(registers, phase, line, digits);
+    if mark.digit < digits as usize {
+        draw_mark(mark, rows, digits as usize, out);
+    }
 }

@@ -1,15 +1,17 @@
 // Cursor and blink: the digit that they mark on a line, and the rows in which they set it.
 ghost use mathlib.Core.Path.{_≡_};
-ghost use mathlib.Core.Bool.{_&&_};
-ghost use Prim.Native.Nat.{ℕ, _≤_, _<_};
+ghost use mathlib.Core.Bool.{cond, _&&_};
+ghost use Prim.Native.Nat.{ℕ, _+_, _*_, _≤_, _<_};
 ghost use lib.Dec.{eqb};
+ghost use lib.ListN.{length, getD};
 ghost use Rattle.place.specs.Address.{addressOf};
 ghost use Rattle.picture.specs.Digit.{linesOf, mostDigits, shownOn};
+ghost use Rattle.picture.specs.Table.{Column};
 ghost use Rattle.picture.specs.Picture.{isDark, isMarked, isSet};
 use super::Phase;
-use super::digit::shown;
 use controller::registers::Registers;
 use place::LineMode;
+use place::address::DisplayAddress;
 use place::shift::Shift;
 
 // The digit whose display address equals the counter, any number past the line where there is none;
@@ -34,15 +36,23 @@ fn digit_at(lines: LineMode, shift: Shift, line: u8, digits: u8, address: u8) ->
     requires { ⌜ (shift .0 < mostDigits lines) × (line < linesOf lines) × (digits ≤ mostDigits lines) ⌝ }
     ensures { λ r. ⌜ ((d : ℕ) → d < digits → eqb d r ≡ eqb (addressOf lines (shownOn lines shift line d) .0) address) ⌝ }
 {
-    let mut digit = 0;
-    while digit < digits {
-        let here = shown(lines, shift, line, digit).address(lines);
-        if here.0 == address {
-            return digit;
-        }
-        digit += 1;
+    let address = DisplayAddress(address);
+    if !address.exists(lines) {
+        return digits;
     }
-    digit
+    let cell = address.cell(lines);
+    let n = cell.0;
+    let s = shift.0;
+    match lines {
+        LineMode::One => (n + 80 - s) % 80,
+        LineMode::Two => {
+            if n / 40 == line {
+                (n + 40 - s) % 40
+            } else {
+                digits
+            }
+        }
+    }
 }
 
 impl Mark {
@@ -67,5 +77,25 @@ impl Mark {
         ensures { λ r. ⌜ r ≡ isSet (self .cursor) (self .blink) rows row ⌝ }
     {
         (self.cursor & (row == rows - 1)) | self.blink
+    }
+}
+
+fn lit(set: bool, dots: u8) -> u8
+    ensures { λ r. ⌜ r ≡ cond set 0x1F dots ⌝ }
+{
+    if set { 0x1f } else { dots }
+}
+
+// All five dots of the marked digit in the rows in which the mark sets it; the other digits' bytes stay.
+pub(crate) fn draw_mark(mark: Mark, rows: usize, digits: usize, out: &mut [u8])
+    requires { ⌜ (rows ≤ 11) × (digits ≤ 80) × (mark .digit < digits) × (length (now out) ≡ rows * digits) ⌝ }
+    ensures { λ _. ⌜ Column (λ row. cond (isSet (mark .cursor) (mark .blink) rows row) 0x1F (getD (now (out .entry)) (row * digits + mark .digit) 0)) rows digits (mark .digit) (now (out .entry)) (now (out .exit)) ⌝ }
+{
+    let mut row = 0;
+    let mut at = mark.digit;
+    while row < rows {
+        out[at] = lit(mark.sets(rows, row), out[at]);
+        at += digits;
+        row += 1;
     }
 }

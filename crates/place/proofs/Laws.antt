@@ -1,10 +1,10 @@
 -- Laws of places: address and cell, steps of the counter, moves of the display.
-use Prim.Native.Nat.{ℕ, _<_, _≤_}
+use Prim.Native.Nat.{ℕ, _<_}
 use mathlib.Core.Path.{_≡_, ap}
 use mathlib.Core.Logic.{⊎-elim}
-use mathlib.Core.Bool.{Bool, true, false, not, _&&_, _||_}
+use mathlib.Core.Bool.{Bool, true, false, not, _&&_}
 use native.Mathlib.Omega.{arith}
-use lib.Dec.{T, ltb, leb, eqb, ltb→lt, leb→le, le→leb, eqb→eq}
+use lib.Dec.{T, ltb, leb, eqb, ltb→lt, leb→le, eqb→eq}
 use Rattle.place.specs.declared.LineMode.{LineMode}
 use Rattle.place.specs.declared.LineMode.the-variants.{One, Two}
 use Rattle.place.specs.declared.address.DisplayAddress.{DisplayAddress}

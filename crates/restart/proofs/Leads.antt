@@ -1,7 +1,6 @@
 -- From the writes as they are given, with their waits and the test of the range, to a chain of steps of the registers.
-use Prim.Native.Nat.{ℕ, zero, suc, _+_, _-_, _*_, _<_, _≤_}
-use mathlib.Core.Path.{_≡_, refl, sym, ap, _∙_, subst, subst⁻¹}
-use mathlib.Core.Bool.{true}
+use Prim.Native.Nat.{ℕ, suc, _+_, _-_, _*_, _<_}
+use mathlib.Core.Path.{_≡_, ap, _∙_, subst, subst⁻¹}
 use mathlib.Core.List.{List, [], _∷_}
 use native.Mathlib.Omega.{arith}
 use lib.Dec.{T}
@@ -9,7 +8,7 @@ use Rattle.place.proofs.Tests.{holds, is-true}
 use Rattle.controller.specs.declared.Controller.{Controller}
 use Rattle.controller.specs.declared.change.Change.{Change}
 use Rattle.controller.specs.declared.registers.Registers.{Registers}
-use Rattle.controller.specs.Part.{inRange, awaiting}
+use Rattle.controller.specs.Part.{inRange}
 use Rattle.controller.specs.Instructions.{Result}
 use Rattle.controller.proofs.Ranged.{InRange, facts, test}
 use Rattle.bus.specs.declared.kind.Kind.{Kind}

@@ -1,7 +1,7 @@
 -- The twelve writes lead from all registers in range to the same registers, by laws of the transfer and of the instructions.
 use Prim.Native.Nat.{ℕ, zero, suc, _+_, _*_, _<_, _≤_, _/_, _%_}
-use mathlib.Core.Path.{_≡_, refl, sym, ap, _∙_, subst, subst⁻¹}
-use mathlib.Core.Bool.{Bool, true, false, not, _&&_, _||_}
+use mathlib.Core.Path.{_≡_, refl, ap, _∙_, subst, subst⁻¹}
+use mathlib.Core.Bool.{Bool, true, false, not, _||_}
 use mathlib.Core.List.{List, [], _∷_}
 use native.Mathlib.Omega.{arith}
 use lib.ListN.{drop}
@@ -10,7 +10,6 @@ use Rattle.place.specs.declared.LineMode.the-variants.{Two}
 use Rattle.place.specs.declared.counter.Counter.the-variants.{Display}
 use Rattle.place.specs.Address.{display}
 use Rattle.place.specs.Shift.{shift}
-use Rattle.place.proofs.Tests.{and-left, and-right, each}
 use Rattle.controller.specs.declared.change.Change.{Change}
 use Rattle.controller.specs.declared.half.Half.{Half}
 use Rattle.controller.specs.declared.half.LineCount.{LineCount}
@@ -24,7 +23,7 @@ use Rattle.controller.specs.Instructions.{Result, decode, bit, lineCount, lineM
 use Rattle.controller.proofs.Decoded.{in-set}
 use Rattle.controller.proofs.Obeyed.{leaves-no-half, answers-0-or-3, keeps-memories, function-set-is-done, function-set-sets-lines, function-set-keeps-memories}
 use Rattle.bus.specs.declared.kind.Kind.{Kind}
-use Rattle.bus.specs.Halves.{upper, halfOf, firstHalf}
+use Rattle.bus.specs.Halves.{upper, firstHalf}
 use Rattle.bus.specs.Transfer.{stepOf}
 use Rattle.bus.proofs.Free.{freed, on-eight, first-waits, second-completes, data-disagrees, status-disagrees, read-disagrees}
 use Rattle.restart.specs.Writes.{halves}
@@ -122,7 +121,7 @@ upper-is h l p q = omega arith
 -- on four lines with no half: the first half waits
 first-leads : (i h : ℕ) (hs : List ℕ) (r : Registers) → h < 16 → r .bus ≡ Four → r .half ≡ Half.Nothing
     → To (suc i) hs (awaiting r (Half.InstructionWrite h) 0) → To i (h ∷ hs) r
-unfolding To Leads firstHalf halfOf
+unfolding To Leads firstHalf
 first-leads i h hs r k e f go = λ l x p.
     leads-by i hs (stepWith h l x r) (firstHalf Kind.InstructionWrite (freed r) (h * 16 + l) 0) (first-waits r (h * 16 + l) x e f) refl (half-allowed i)
     (subst⁻¹ (λ (u : ℕ). To (suc i) hs (awaiting r (Half.InstructionWrite u) 0)) (upper-is h l k p) go)

@@ -1,21 +1,21 @@
 -- The third statement, proved.
-use Prim.Native.Nat.{ℕ, _+_, _-_, _*_, _<_, _≤_}
-use mathlib.Core.Path.{_≡_, refl, sym, ap, _∙_, subst}
+use Prim.Native.Nat.{ℕ, _+_, _-_, _*_, _≤_}
+use mathlib.Core.Path.{_≡_, refl, sym, ap, _∙_}
 use mathlib.Core.List.{List, [], _∷_}
 use native.Mathlib.Omega.{arith}
 use lib.ListN.{length}
 use lib.Dec.{T}
 use Rattle.controller.specs.declared.Controller.{Controller}
 use Rattle.controller.specs.Part.{inRange, freshWith}
-use Rattle.controller.proofs.Ranged.{InRange, facts}
+use Rattle.controller.proofs.Ranged.{facts}
 use Rattle.bus.specs.declared.kind.Kind.{Kind}
-use Rattle.bus.specs.Transfer.{transferOf}
-use Rattle.bus.specs.Events.{Event, Transfer, toldBy, run, reached, saidBy, waits}
+use Rattle.bus.specs.declared.event.Event.the-variants.{Transfer}
+use Rattle.bus.specs.Events.{toldBy, run, reached, saidBy, waits}
 use Rattle.bus.proofs.Range.{range-kept, fresh-in-range, reached-in-range}
 use Rattle.bus.proofs.Busy.{waits-kept, waits-lower}
 use Rattle.picture.specs.Answers.{answerFor, bufferFor}
-use Rattle.restart.specs.Writes.{halves, Write, written, Given, after, AtEach, patiently, patient, FourLines}
-use Rattle.restart.specs.Statement.{Holds, answers, freshLike, Restarts, ThirdStatement, ForEveryController}
+use Rattle.restart.specs.Writes.{halves, Write, written, Given, after, patiently, patient, FourLines}
+use Rattle.restart.specs.Statement.{answers, freshLike, ThirdStatement, ForEveryController}
 use Rattle.restart.proofs.Leads.{Came, leads-to}
 use Rattle.restart.proofs.Restarting.{Allowed, Restarted, restarted, restart-leads}
 

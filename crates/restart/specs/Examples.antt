@@ -7,8 +7,9 @@ use Rattle.place.specs.declared.counter.Counter.{Counter}
 use Rattle.place.specs.declared.counter.Counter.the-variants.{Display, Character}
 use Rattle.controller.specs.declared.Controller.{Controller}
 use Rattle.bus.specs.declared.kind.Kind.the-variants.{InstructionWrite, DataWrite, StatusRead}
-use Rattle.bus.specs.Transfer.{Told}
-use Rattle.bus.specs.Events.{Event, Transfer, Wait, toldBy, reached}
+use Rattle.bus.specs.declared.event.Event.{Event}
+use Rattle.bus.specs.declared.event.Event.the-variants.{Transfer, Wait}
+use Rattle.bus.specs.Events.{toldBy, reached}
 use Rattle.picture.specs.Digit.{shownOn}
 
 -- what a case looks at afterwards

@@ -1,11 +1,11 @@
 -- Laws of one row: bits packed one by one, and the line end behind the marks.
 use Prim.Native.Nat.{ℕ, zero, suc, _+_, _*_, _^_, _≤_, _<_}
-use mathlib.Core.Path.{_≡_, refl, _∙_}
-use mathlib.Core.List.{List, [], _∷_, _++_, append-nil}
+use mathlib.Core.Path.{_≡_, refl}
+use mathlib.Core.List.{List, [], _∷_, _++_}
 use native.Mathlib.Nat.{two-pow-succ, pow-le-pow-right}
 use native.Mathlib.Numerals.{add-one}
 use native.Mathlib.Omega.{arith}
-use lib.ListN.{length, drop, getD, set, replicate}
+use lib.ListN.{length, getD, set, replicate}
 use lib.Seq.{drop-cons, drop-length, set-at}
 use Rattle.picture.specs.Table.{table}
 use Rattle.picture.proofs.Lists.{length-table, Filled}

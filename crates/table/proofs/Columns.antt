@@ -6,6 +6,9 @@ use native.Mathlib.Numerals.{add-one}
 use native.Mathlib.Omega.{arith}
 use lib.ListN.{length, drop, getD, length-append, drop-of-length-le}
 use lib.Seq.{drop-cons}
+use Rattle.controller.specs.declared.answer.Answer.{Answer}
+use Rattle.controller.specs.declared.answer.Answer.the-variants.{Done, FirstHalf, Busy, HalvesDisagree, NoSuchAddress, NotInRange}
+use Rattle.controller.specs.Answers.{numberOf}
 use Rattle.record.specs.declared.events.Event.{Event}
 use Rattle.record.specs.declared.events.Event.the-variants.{InstructionWrite, DataWrite, StatusRead, DataRead, Wait}
 use Rattle.record.specs.Event.{rawOf}
@@ -72,3 +75,12 @@ kind-short (DataWrite value) = omega arith
 kind-short StatusRead = omega arith
 kind-short DataRead = omega arith
 kind-short (Wait value) = omega arith
+
+-- the number of an answer is at most two
+pub number-short : (answer : Answer) → numberOf answer < 100
+number-short (Done value) = omega arith
+number-short (FirstHalf value) = omega arith
+number-short Busy = omega arith
+number-short HalvesDisagree = omega arith
+number-short NoSuchAddress = omega arith
+number-short NotInRange = omega arith

@@ -7,8 +7,8 @@ use Rattle.controller.specs.Part.{isFour, halfFits, inRange, freshRegisters, fr
 use Rattle.controller.specs.Instructions.{bit, decode, moved, counterFor, shiftFor, rearranged, effectOf, changeOf, ticksOf, lacking, obey}
 use Rattle.bus.specs.Memory.{byteAt, storeAt, displayAfter, characterAfter}
 use Rattle.bus.specs.Data.{shiftAfter, writeData, readData, readStatus, readOf, act}
-use Rattle.bus.specs.Halves.{isData, isRead, halfOf, firstHalf, alike, secondHalf, onFour, onBus}
-use Rattle.bus.specs.Transfer.{isStatus, refusedBusy, stepOf, transferOf, waitOf}
+use Rattle.bus.specs.Halves.{firstHalf, secondHalf, onFour, onBus}
+use Rattle.bus.specs.Transfer.{refusedBusy, stepOf, transferOf, waitOf}
 use Rattle.bus.specs.Events.{toldBy}
 use Rattle.record.specs.Event.{eventOf}
 use Rattle.record.specs.Record.{runIn, eventsIn, eventsOf, anyIllFormed, badEvents, checkOf}
@@ -17,5 +17,5 @@ use Rattle.table.specs.Table.{spaced, lineOf, linesOf, tableOf, printedO
 use Rattle.table.specs.Theorems.{PaperExample}
 
 pub paper-example : PaperExample
-unfolding hasDisplay cellOf hasCharacter upDisplay downDisplay upCharacter downCharacter hasCounter counterStep numberOn lastShift hasShift leftOf rightOf moveOf isFour halfFits inRange freshRegisters freshWith switchedOn waited bit decode moved counterFor shiftFor rearranged effectOf changeOf ticksOf lacking obey byteAt storeAt displayAfter characterAfter shiftAfter writeData readData readStatus readOf act isData isRead halfOf firstHalf alike secondHalf onFour onBus isStatus refusedBusy stepOf transferOf waitOf toldBy eventOf runIn eventsIn eventsOf anyIllFormed badEvents checkOf digitsOf decimalOf spaced lineOf linesOf tableOf printedOf
+unfolding hasDisplay cellOf hasCharacter upDisplay downDisplay upCharacter downCharacter hasCounter counterStep numberOn lastShift hasShift leftOf rightOf moveOf isFour halfFits inRange freshRegisters freshWith switchedOn waited bit decode moved counterFor shiftFor rearranged effectOf changeOf ticksOf lacking obey byteAt storeAt displayAfter characterAfter shiftAfter writeData readData readStatus readOf act firstHalf secondHalf onFour onBus refusedBusy stepOf transferOf waitOf toldBy eventOf runIn eventsIn eventsOf anyIllFormed badEvents checkOf digitsOf decimalOf spaced lineOf linesOf tableOf printedOf
 paper-example = refl

@@ -2,9 +2,7 @@
 use Prim.Native.Nat.{ℕ, _≤_}
 use mathlib.Core.Path.{_≡_, refl, sym, ap, _∙_}
 use mathlib.Core.Bool.{Bool, true, false, cond}
-use mathlib.Core.List.{List}
 use native.Mathlib.Omega.{arith}
-use borrow.Author.Tests.{eq-eqb}
 use lib.Dec.{eqb}
 use lib.ListN.{length, take, drop, length-append}
 use lib.Seq.{take-append-seam}
@@ -12,7 +10,7 @@ use Rattle.record.specs.Buffer.{over, unlessRefused}
 use Rattle.table.specs.declared.Tabled.{Tabled}
 use Rattle.table.specs.declared.Tabled.the-variants.{Done, ShortBuffer}
 use Rattle.table.specs.Table.{printedOf}
-use Rattle.table.specs.Tabled.{answerOf, numberOf, sizeOf, Tabling}
+use Rattle.table.specs.Tabled.{answerOf, numberOf, sizeOf}
 use Rattle.table.specs.Theorems.{TableSettled, TextInBuffer}
 
 -- an answer is had again from its number and its size

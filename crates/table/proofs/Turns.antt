@@ -1,7 +1,7 @@
 -- Laws of the lines of a record's events.
 use Prim.Native.Nat.{ℕ, _+_, _≤_}
 use mathlib.Core.Path.{_≡_}
-use mathlib.Core.List.{List, [], _∷_, _++_}
+use mathlib.Core.List.{List, [], _∷_}
 use lib.ListN.{length, drop}
 use Rattle.controller.specs.declared.Controller.{Controller}
 use Rattle.controller.specs.Part.{switchedOn}

@@ -1,5 +1,4 @@
 // The bench program's text for a record, as bytes in a lent buffer.
-mod answer;
 mod line;
 mod lines;
 mod printed;

@@ -1,5 +1,4 @@
 // The line of one event.
-use crate::answer;
 use controller::answer::Answer;
 use record::Event;
 use text::put_number;
@@ -60,8 +59,8 @@ pub(crate) fn put_event(
         number,
         raw.kind,
         raw.value,
-        answer::number(answer),
-        answer::value(answer),
+        answer.number(),
+        answer.value(),
         place,
         out,
     )

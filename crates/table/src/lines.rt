@@ -1,7 +1,9 @@
 // A line for each event of a record.
 use crate::line::put_event;
+use bus::turn::turn;
 use controller::Controller;
-use record::Step;
+use record::Meaning;
+use run::event_on;
 ghost use mathlib.Core.Path.{_≡_};
 ghost use Prim.Native.Nat.{_+_, _*_, _≤_};
 ghost use lib.ListN.{length};
@@ -23,19 +25,16 @@ pub(crate) fn put_lines(bytes: &[u8], place: usize, out: &mut [u8]) -> usize
     let mut from: usize = 3;
     let mut next = place;
     while from < bytes.len() {
-        match record::event_at(bytes, from) {
-            Step::Found(event, behind) => {
-                let turned = run::give(&mut display, &mut character, registers, event);
+        match record::three_at(bytes, from) {
+            Meaning::WellFormed(event) => {
+                let turned = turn(&mut display, &mut character, registers, event_on(event));
                 registers = turned.registers;
                 let answer = turned.answer;
                 next = put_event(number, event, answer, next, out);
                 number += 1;
-                from = behind;
+                from += 3;
             }
-            Step::End => {
-                return next;
-            }
-            Step::NoEvent => {
+            Meaning::IllFormed => {
                 return next;
             }
         }

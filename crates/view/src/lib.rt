@@ -5,7 +5,6 @@ ghost use Prim.Native.Nat.{_≤_};
 ghost use lib.ListN.{length};
 ghost use Rattle.controller.specs.Part.{inRange};
 ghost use Rattle.text.specs.Put.{Puts};
-ghost use Rattle.picture.specs.Answers.{numberOf};
 ghost use Rattle.sheet.specs.Answers.{countOf};
 ghost use Rattle.view.specs.View.{shownOf, viewOf};
 ghost use Rattle.view.specs.Answers.{Viewed};
@@ -22,18 +21,6 @@ pub enum Answer {
     // How many bytes were written.
     Done(usize),
     Short,
-}
-
-fn number(answer: picture::Answer) -> u8
-    ensures { λ r. ⌜ r ≡ numberOf answer ⌝ }
-{
-    match answer {
-        picture::Answer::Done => 0,
-        picture::Answer::Digits => 4,
-        picture::Answer::Rom => 5,
-        picture::Answer::Short => 6,
-        picture::Answer::NotInRange => 16,
-    }
 }
 
 fn count(answer: sheet::Answer) -> usize
@@ -61,7 +48,7 @@ fn show(
     let registers = controller.registers;
     let mode = registers.mode;
     let mut dots = [0u8; 880];
-    let refused = number(picture(controller, digits, rom, phase, &mut dots));
+    let refused = picture(controller, digits, rom, phase, &mut dots).number();
     if refused != 0 {
         return put_refused(refused, out);
     }

@@ -12,8 +12,8 @@ returns : tie.Need-returns
 unfolding transferOf
 returns c = rw (← c .before .in-range .ensures, not-true (c .before .in-range .result) (c .if1 .taken))
 
-turn-requires : tie.Need-turn-requires
-turn-requires c κs =
+transferred-requires : tie.Need-transferred-requires
+transferred-requires c κs =
     let tested = c .before .before .before .before in
     sym (tested .before .in-range .ensures) ∙ not-false (tested .before .in-range .result) (tested .if1 .left)
 
@@ -21,4 +21,4 @@ returns-2 : tie.Need-returns-2
 returns-2 c = search needs
 
 pub transfer-spec : {M : Type 1} → statement M
-transfer-spec = tie.close (tie.spec in-range-requires returns turn-requires returns-2)
+transfer-spec = tie.close (tie.spec in-range-requires returns transferred-requires returns-2)

@@ -1,7 +1,6 @@
 use Prim.Native.Nat.{_-_}
 use mathlib.Core.Path.{refl}
 use native.Mathlib.Nat.{le-antisymm}
-use native.Mathlib.Omega.{arith}
 use lib.ListN.{length}
 use borrow.Author.Needs.{needs}
 use Rattle.arguments.proofs.Counts.{Counted, empty-word, below-digits, above-digits, grown-large, counted-next, counted-all}

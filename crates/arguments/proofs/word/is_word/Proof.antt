@@ -1,10 +1,8 @@
 use Prim.Native.Nat.{_-_, _≤_}
 use mathlib.Core.Path.{_≡_, refl, sym, _∙_}
 use native.Mathlib.Nat.{le-antisymm}
-use native.Mathlib.Omega.{arith}
 use lib.ListN.{length, drop}
 use borrow.Author.Needs.{needs}
-use borrow.Author.Tests.{eq-eqb, ne-eqb}
 use Rattle.arguments.specs.Words.{isWord}
 use Rattle.arguments.proofs.Letters.{other-length, letters-differ, letters-same, no-more}
 use Rattle.arguments.proofs.word.is_word.Statement.{statement}

@@ -1,62 +1,81 @@
-use Prim.Native.Nat.{ℕ, _-_, _<_, _≤_}
-use mathlib.Core.Path.{_≡_, sym, _∙_}
+use Prim.Native.Nat.{_<_}
+use mathlib.Core.Path.{sym, _∙_}
 use native.Mathlib.Omega.{arith}
-use borrow.Author.Count.{below-more}
+use lib.Dec.{T}
 use borrow.Author.Needs.{needs}
-use Rattle.place.specs.Address.{addressOf}
-use Rattle.picture.specs.Digit.{shownOn}
-use Rattle.picture.proofs.Marks.{marked-here, marked-nowhere}
+use borrow.Author.Tests.{not-true, not-false}
+use Rattle.place.specs.Address.{display, hasDisplay}
+use Rattle.place.proofs.Laws.{cell-exists}
+use Rattle.place.proofs.Tests.{holds}
+use Rattle.picture.proofs.Marks.{most-small, most-two, digit-one, digit-two, marked-cell, marked-none, marked-elsewhere}
 use Rattle.picture.proofs.mark.digit_at.Statement.{statement}
 use Rattle.picture.proofs.mark.digit_at.Tie as tie
 
-abbrev Inv-loop : tie.InvT-loop
-Inv-loop lines shift line digits number digit₀ digit = (digit ≤ digits) × ((d : ℕ) → d < digit → addressOf lines (shownOn lines shift line d) .0 ≡ number → ⊥)
+-- past the first test the address exists, and so its cell does
+exists : (c : tie.After-cell) → T (hasDisplay (c .before .before .before .args .lines) (display (c .before .before .before .args .address)))
+exists c =
+    let tested = c .before in
+    holds _ (sym (tested .before .exists .ensures) ∙ not-false (tested .before .exists .result) (tested .if1 .left))
 
-abbrev μ-loop : tie.MeasureT-loop
-μ-loop lines shift line digits number digit₀ digit = digits - digit
+small : (c : tie.After-cell) → c .cell .result .0 < 80
+small c = rw (c .cell .ensures) (cell-exists _ _ (exists c))
 
--- the address that a turn looks at
-address-here : (c : tie.After-address Inv-loop μ-loop) →
-    let at-loop = c .before .before .before in
-    let l = at-loop .before .args in
-    c .address .result .0 ≡ addressOf (l .lines) (shownOn (l .lines) (l .shift) (l .line) (at-loop .loop .digit)) .0
-address-here c = rw (c .address .ensures, c .before .shown .ensures .0)
+exists-requires : tie.Need-exists-requires
+exists-requires c κs = search needs
 
-loop-holds : tie.Need-loop-holds Inv-loop μ-loop
-loop-holds c = (search needs, λ d l e. omega arith)
+returns : tie.Need-returns
+returns c = marked-none _ _ _ _ _ (search needs) (sym (c .before .exists .ensures) ∙ not-true (c .before .exists .result) (c .if1 .taken))
 
-shown-requires : tie.Need-shown-requires Inv-loop μ-loop
-shown-requires c κs = search needs
+cell-requires : tie.Need-cell-requires
+cell-requires c κs = search needs
 
-address-requires : tie.Need-address-requires Inv-loop μ-loop
-address-requires c κs = search needs
+enum-told : tie.Need-enum-told
+enum-told c = search needs
 
-returns : tie.Need-returns Inv-loop μ-loop
-returns c = marked-here _ _ _ _ _ _ (search needs) (search needs) (search needs) (sym (address-here (c .before .before)) ∙ c .if1 .taken)
+add-result : tie.Need-add-result
+add-result c = omega (arith, small (c .before .before))
 
-add-digit : tie.Need-add-digit Inv-loop μ-loop
-add-digit c = search needs
+sub-result : tie.Need-sub-result
+sub-result c = omega (arith, most-small (c .before .before .before .before .before .args .lines))
 
-loop-less : tie.Need-loop-less Inv-loop μ-loop
-loop-less c = search needs
+enum-told-2 : tie.Need-enum-told-2
+enum-told-2 c = search needs
 
-loop-again : tie.Need-loop-again Inv-loop μ-loop
-loop-again c = (search needs, below-more _ _ (c .before .before .before .before .before .loop .inv .1) (λ e. c .if1 .left (address-here (c .before .before) ∙ e)))
+add-result-2 : tie.Need-add-result-2
+add-result-2 c = omega (arith, small (c .before .before .before))
 
-returns-2 : tie.Need-returns-2 Inv-loop μ-loop
-returns-2 c = marked-nowhere _ _ _ _ _ _ (c .loop-test .left) (λ d l. c .before .loop .inv .1 d (omega arith))
+sub-result-2 : tie.Need-sub-result-2
+sub-result-2 c = omega (arith, most-two _ (c .before .enum-told2 .given .1))
+
+returns-2 : tie.Need-returns-2
+returns-2 c =
+    let at-cell = c .before .before in
+    marked-cell _ _ _ _ _ _ (at-cell .cell .ensures) _ (search needs) (search needs) (exists at-cell)
+    (digit-one _ _ _ _ (c .enum-told .given .1) (search needs) (small at-cell))
+
+returns-3 : tie.Need-returns-3
+returns-3 c =
+    let at-cell = c .before .before .before in
+    marked-cell _ _ _ _ _ _ (at-cell .cell .ensures) _ (search needs) (search needs) (exists at-cell)
+    (digit-two _ _ _ _ (c .before .enum-told2 .given .1) (search needs) (c .if2 .taken))
+
+returns-4 : tie.Need-returns-4
+returns-4 c =
+    marked-elsewhere _ _ _ _ _ _ (c .before .before .before .cell .ensures) (search needs) (c .before .enum-told2 .given .1) (c .if2 .left)
 
 pub digit-at-spec : {M : Type 1} → statement M
 digit-at-spec =
     tie.close
     (tie.spec
-    Inv-loop
-    μ-loop
-    loop-holds
-    shown-requires
-    address-requires
+    exists-requires
     returns
-    add-digit
-    loop-less
-    loop-again
-    returns-2)
+    cell-requires
+    enum-told
+    add-result
+    sub-result
+    enum-told-2
+    add-result-2
+    sub-result-2
+    returns-2
+    returns-3
+    returns-4)

@@ -1,13 +1,11 @@
 use borrow.Author.Needs.{needs}
-use Prim.Native.Nat.{_+_, _*_, _≤_}
-use mathlib.Core.Path.{_≡_, _∙_}
+use Prim.Native.Nat.{_*_, _≤_}
 use native.Mathlib.Nat.{zero-mul, zero-add, one-mul, mul-assoc}
-use native.Mathlib.Omega.{arith}
 use lib.ListN.{length}
 use denote.Ref.{now}
 use Rattle.picture.specs.Digit.{linesOf}
 use Rattle.sheet.specs.Sheet.{between}
-use Rattle.sheet.specs.Size.{linesSize, rowSize, gapSize}
+use Rattle.sheet.specs.Size.{linesSize}
 use Rattle.sheet.proofs.lines.draw_lines.Statement.{statement}
 use Rattle.sheet.proofs.lines.draw_lines.Tie as tie
 

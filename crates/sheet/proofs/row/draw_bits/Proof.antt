@@ -1,6 +1,4 @@
-use Prim.Native.Nat.{ℕ, _+_, _*_, _-_}
-use mathlib.Core.Path.{_≡_, refl}
-use native.Mathlib.Omega.{arith}
+use Prim.Native.Nat.{_+_, _*_, _-_}
 use lib.ListN.{length, getD}
 use borrow.Author.Needs.{needs}
 use Rattle.picture.proofs.Lists.{Filled, filled-start, filled-next, filled-whole}

@@ -1,7 +1,5 @@
-use Prim.Native.Nat.{ℕ, _-_, _/_, _%_, _≤_}
-use mathlib.Core.Path.{_≡_}
+use Prim.Native.Nat.{_-_, _/_, _%_, _≤_}
 use native.Mathlib.Nat.{le-antisymm}
-use native.Mathlib.Omega.{arith}
 use lib.ListN.{getD, length-set}
 use borrow.Author.Needs.{needs}
 use Rattle.picture.proofs.Lists.{Filled, filled-start, filled-next}

@@ -13,8 +13,7 @@ use Rattle.bus.specs.Transfer.{with}
 use Rattle.bus.specs.Events.{run}
 use Rattle.bus.proofs.Range.{reached-in-range}
 use Rattle.record.specs.Record.{runIn, eventsOf}
-use Rattle.record.specs.Place.{valueOf}
-use Rattle.record.proofs.InTurn.{found-next, found-first, none-left, none-behind}
+use Rattle.record.proofs.InTurn.{found-first, none-left, none-behind}
 use Rattle.table.specs.Table.{linesOf}
 use Rattle.text.proofs.Placed.{Awaits}
 use Rattle.table.proofs.Turns.{lines-start, lines-turn, lines-end}
@@ -39,14 +38,17 @@ loop-holds c =
     let on = c .before .before .before .switched-on .ensures in
     (omega arith, omega arith, refl, ap (λ (x : Controller). inRange (x .registers)) on ∙ is-true _ (reached-in-range []), refl, omega arith, lines-start _ _ _ _ (c .before .before .before .before .before .before .pre .0) on)
 
-event-at-requires : tie.Need-event-at-requires Inv-loop μ-loop
-event-at-requires c κs = search needs
+three-at-requires : tie.Need-three-at-requires Inv-loop μ-loop
+three-at-requires c κs = search needs
 
 enum-known-event : tie.Need-enum-known-event Inv-loop μ-loop
 enum-known-event c = search needs
 
-give-requires : tie.Need-give-requires Inv-loop μ-loop
-give-requires c κs = c .before .before .before .before .before .before .before .loop .inv .3
+event-on-requires : tie.Need-event-on-requires Inv-loop μ-loop
+event-on-requires c κs = search needs
+
+turn-requires : tie.Need-turn-requires Inv-loop μ-loop
+turn-requires c κs = c .before .before .before .before .before .before .before .before .loop .inv .3
 
 put-event-requires : tie.Need-put-event-requires Inv-loop μ-loop
 put-event-requires c κs = (omega arith, omega arith)
@@ -54,23 +56,24 @@ put-event-requires c κs = (omega arith, omega arith)
 add-number : tie.Need-add-number Inv-loop μ-loop
 add-number c = omega arith
 
+add-from : tie.Need-add-from Inv-loop μ-loop
+add-from c = omega arith
+
 loop-less : tie.Need-loop-less Inv-loop μ-loop
-loop-less c =
-    omega (arith, found-next _ (c .before .before .before .before .before .before .before .before .before .before .before .before .before .loop .from) (omega arith) (omega arith) _ (c .before .before .before .before .before .before .before .before .before .before .before .event-at .ensures) _ _ (c .before .before .before .before .before .before .before .before .before .event .given .1))
+loop-less c = omega arith
 
 loop-again : tie.Need-loop-again Inv-loop μ-loop
 loop-again c =
-    let l = c .before .before .before .before .before .before .before .before .before .before .before .before .before .loop in
-    let given = c .before .before .before .before .before .give .ensures in
-    let next = found-next _ (l .from) (omega arith) (omega arith) _ (c .before .before .before .before .before .before .before .before .before .before .before .event-at .ensures) _ _ (c .before .before .before .before .before .before .before .before .before .event .given .1) in
-    let first = found-first _ (l .from) (omega arith) (omega arith) _ (c .before .before .before .before .before .before .before .before .before .before .before .event-at .ensures) _ _ (c .before .before .before .before .before .before .before .before .before .event .given .1) in (
+    let l = c .before .before .before .before .before .before .before .before .before .before .before .before .before .before .loop in
+    let turned = rw (c .before .before .before .before .before .before .event-on .ensures) at (c .before .before .before .before .before .turn .ensures) in
+    let first = found-first _ _ _ (c .before .before .before .before .before .before .before .before .before .before .before .before .three-at .ensures) _ (c .before .before .before .before .before .before .before .before .before .before .event .given .1) in (
       omega arith,
       omega arith,
-      omega (arith, next),
-      given .1,
+      omega arith,
+      turned .1,
       omega arith,
       omega arith,
-      lines-turn _ _ _ _ _ _ _ _ (l .inv .6) _ _ _ _ _ first (given .0) (omega arith) (c .before .before .put-event .ensures .0),
+      lines-turn _ _ _ _ _ _ _ _ (l .inv .6) _ _ _ _ _ first (turned .0) (omega arith) (c .before .before .put-event .ensures .0),
     )
 
 enum-told : tie.Need-enum-told Inv-loop μ-loop
@@ -80,24 +83,14 @@ same-length : tie.Need-same-length Inv-loop μ-loop
 same-length c = c .before .before .before .before .loop .inv .4
 
 returns : tie.Need-returns Inv-loop μ-loop
-returns c = let l = c .before .before .before .before .loop in
-    lines-end _ _ _ _ _ _ _ _ (l .inv .6) (none-left _ (l .from) (omega arith) (omega arith) _ (c .before .before .event-at .ensures) (ap valueOf (c .enum-told .given .1)))
-
-enum-told-2 : tie.Need-enum-told-2 Inv-loop μ-loop
-enum-told-2 c = search needs
+returns c =
+    lines-end _ _ _ _ _ _ _ _ (c .before .before .before .before .loop .inv .6) (none-left _ _ _ (c .before .before .three-at .ensures) (c .enum-told .given .1))
 
 same-length-2 : tie.Need-same-length-2 Inv-loop μ-loop
-same-length-2 c = c .before .before .before .before .loop .inv .4
+same-length-2 c = c .before .loop .inv .4
 
 returns-2 : tie.Need-returns-2 Inv-loop μ-loop
-returns-2 c = let l = c .before .before .before .before .loop in
-    lines-end _ _ _ _ _ _ _ _ (l .inv .6) (none-left _ (l .from) (omega arith) (omega arith) _ (c .before .before .event-at .ensures) (ap valueOf (c .enum-told2 .given .1)))
-
-same-length-3 : tie.Need-same-length-3 Inv-loop μ-loop
-same-length-3 c = c .before .loop .inv .4
-
-returns-3 : tie.Need-returns-3 Inv-loop μ-loop
-returns-3 c = lines-end _ _ _ _ _ _ _ _ (c .before .loop .inv .6) (none-behind _ (c .before .loop .from) (c .loop-test .left))
+returns-2 c = lines-end _ _ _ _ _ _ _ _ (c .before .loop .inv .6) (none-behind _ (c .before .loop .from) (c .loop-test .left))
 
 pub put-lines-spec : {M : Type 1} → statement M
 put-lines-spec =
@@ -107,18 +100,17 @@ put-lines-spec =
     μ-loop
     switched-on-requires
     loop-holds
-    event-at-requires
+    three-at-requires
     enum-known-event
-    give-requires
+    event-on-requires
+    turn-requires
     put-event-requires
     add-number
+    add-from
     loop-less
     loop-again
     enum-told
     same-length
     returns
-    enum-told-2
     same-length-2
-    returns-2
-    same-length-3
-    returns-3)
+    returns-2)

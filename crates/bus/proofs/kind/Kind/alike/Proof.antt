@@ -1,4 +1,3 @@
-use Rattle.bus.specs.Halves.{alike}
 use borrow.Author.Needs.{needs}
 use Rattle.bus.proofs.kind.Kind.alike.Statement.{statement}
 use Rattle.bus.proofs.kind.Kind.alike.Tie as tie
@@ -16,7 +15,6 @@ is-read-requires-2 : tie.Need-is-read-requires-2
 is-read-requires-2 c κs = search needs
 
 returns : tie.Need-returns
-unfolding alike
 returns c = rw (c .before .before .before .is-data .ensures, c .before .before .is-data2 .ensures, c .before .is-read .ensures, c .is-read2 .ensures)
 
 pub alike-spec : {M : Type 1} → statement M

@@ -1,4 +1,3 @@
-use Rattle.bus.specs.Halves.{halfOf}
 use borrow.Author.Needs.{needs}
 use Rattle.bus.proofs.kind.Kind.half.Statement.{statement}
 use Rattle.bus.proofs.kind.Kind.half.Tie as tie
@@ -16,19 +15,15 @@ enum-told-4 : tie.Need-enum-told-4
 enum-told-4 c = search needs
 
 returns : tie.Need-returns
-unfolding halfOf
 returns c = rw (c .enum-told .given .1)
 
 returns-2 : tie.Need-returns-2
-unfolding halfOf
 returns-2 c = rw (c .enum-told2 .given .1)
 
 returns-3 : tie.Need-returns-3
-unfolding halfOf
 returns-3 c = rw (c .enum-told3 .given .1)
 
 returns-4 : tie.Need-returns-4
-unfolding halfOf
 returns-4 c = rw (c .enum-told4 .given .1)
 
 pub half-spec : {M : Type 1} → statement M
