@@ -29,7 +29,7 @@ impl LineCount {
 }
 
 impl Half {
-    pub fn fits(self, bus: LineCount) -> bool
+    pub(crate) fn fits(self, bus: LineCount) -> bool
         ensures { λ r. ⌜ r ≡ halfFits bus self ⌝ }
     {
         let four = bus.is_four();

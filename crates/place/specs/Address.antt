@@ -1,5 +1,5 @@
 -- "Memories and counters": the addresses of both memories, the cells of display memory, and one step.
-use Prim.Native.Nat.{ℕ, _+_, _-_, _%_}
+use Prim.Native.Nat.{ℕ, _+_, _-_}
 use mathlib.Core.Bool.{Bool, cond, _&&_, _||_}
 use lib.Dec.{ltb, leb, eqb}
 use Rattle.place.specs.declared.LineMode.{LineMode}
@@ -30,7 +30,7 @@ cellOf Two a = cell (cond (ltb (a .0) 0x40) (a .0) (a .0 - 0x40 + 40))
 -- the same rule read backwards
 unfoldable pub addressOf : LineMode → Cell → DisplayAddress
 addressOf One c = display (c .0)
-addressOf Two c = display (cond (ltb (c .0) 40) (c .0) ((c .0 - 40) % 40 + 0x40))
+addressOf Two c = display (cond (ltb (c .0) 40) (c .0) (c .0 - 40 + 0x40))
 
 -- character memory: addresses 00 to 3F
 unfoldable pub hasCharacter : CharacterAddress → Bool

@@ -1,6 +1,6 @@
 // Addresses on the bus and cells of storage, kept apart: only the line mode turns one into the other.
 ghost use mathlib.Core.Path.{_≡_};
-ghost use Rattle.place.specs.Address.{hasDisplay, hasCharacter, cellOf, addressOf, upDisplay, downDisplay, upCharacter, downCharacter};
+ghost use Rattle.place.specs.Address.{hasDisplay, hasCharacter, cellOf, upDisplay, downDisplay, upCharacter, downCharacter};
 use super::LineMode;
 
 // An address of display memory, as the bus names it.
@@ -108,24 +108,6 @@ impl CharacterAddress {
             CharacterAddress(0x3f)
         } else {
             CharacterAddress(n - 1)
-        }
-    }
-}
-
-impl Cell {
-    pub fn address(self, mode: LineMode) -> DisplayAddress
-        ensures { λ r. ⌜ r ≡ addressOf mode self ⌝ }
-    {
-        let n = self.0;
-        match mode {
-            LineMode::One => DisplayAddress(n),
-            LineMode::Two => {
-                if n < 40 {
-                    DisplayAddress(n)
-                } else {
-                    DisplayAddress((n - 40) % 40 + 0x40)
-                }
-            }
         }
     }
 }

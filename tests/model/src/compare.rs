@@ -3,10 +3,10 @@
 use crate::arguments::arguments_alike;
 use crate::coverage::{Coverage, ENOUGH_RECORDS};
 use crate::difference::{hex, Compared};
-use crate::generator::case::case;
+use crate::generator::case::{case, Case};
 use crate::model::rules::Rules;
 use crate::model::screen::Form;
-use crate::programs::{screen_arguments, Itself, Programs};
+use crate::programs::{screen_arguments, Itself, Printed, Programs};
 
 /// So many differences are told in full; all are counted.
 const TOLD: u64 = 5;
@@ -34,8 +34,9 @@ pub fn compare(run: &Run, programs: &dyn Programs, rules: &Rules, again: &str) -
     let (mut records, mut tables, mut pictures, mut told) = (0, 0, 0, 0);
     for number in run.numbers() {
         let case = case(run.seed, number);
-        let table = Compared::new(model.bench(&case), programs.bench(&case));
-        let picture = Compared::new(model.screen(&case), programs.screen(&case));
+        let (printed, shown) = both(programs, &case);
+        let table = Compared::new(model.bench(&case), printed);
+        let picture = Compared::new(model.screen(&case), shown);
         records += 1;
         tables += u64::from(table.alike());
         pictures += u64::from(picture.alike());
@@ -57,6 +58,15 @@ pub fn compare(run: &Run, programs: &dyn Programs, rules: &Rules, again: &str) -
     }
     println!("model: {records} records, {tables} tables and {pictures} pictures alike");
     alike
+}
+
+/// Both programs at once: starting them is most of a run's time.
+fn both(programs: &dyn Programs, case: &Case) -> (Printed, Printed) {
+    std::thread::scope(|scope| {
+        let printed = scope.spawn(|| programs.bench(case));
+        let shown = programs.screen(case);
+        (printed.join().expect("a comparison does not panic"), shown)
+    })
 }
 
 /// Prints what was met; a run of enough records has to meet every class.

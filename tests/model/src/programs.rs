@@ -14,7 +14,7 @@ use std::time::Duration;
 /// What a program printed, or how it failed to end as it should.
 pub type Printed = Result<Vec<u8>, String>;
 
-pub trait Programs {
+pub trait Programs: Sync {
     fn bench(&self, case: &Case) -> Printed;
     fn screen(&self, case: &Case) -> Printed;
     /// Lines that `screen` prints, to whichever stream, for a list of arguments and no record.
