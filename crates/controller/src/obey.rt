@@ -1,5 +1,6 @@
 // What each of the nine instructions does.
 ghost use mathlib.Core.Path.{_≡_};
+ghost use Rattle.controller.specs.Part.{arranged as arrangedOf};
 ghost use Rattle.controller.specs.Instructions.{resultOf, homed as homedOf, moved as movedOf, rearranged as rearrangedOf, obey as obeyOf};
 use super::Controller;
 use super::answer::Answer;
@@ -9,12 +10,9 @@ use super::effect::done;
 use super::effect::forgotten;
 use super::half::LineCount;
 use super::instruction::Instruction;
-use super::registers::Entry;
-use super::registers::Lights;
 use super::registers::Mode;
 use super::registers::Registers;
 use place::LineMode;
-use place::address::CharacterAddress;
 use place::address::DisplayAddress;
 use place::counter::Counter;
 use place::shift::Shift;
@@ -28,49 +26,6 @@ fn homed(registers: Registers) -> Registers
         shift: Shift(0),
         ..registers
     }
-}
-
-fn nothing(registers: Registers) -> Effect
-    ensures { λ r. ⌜ resultOf r ≡ obeyOf Instruction.Nothing registers ⌝ }
-{
-    done(0, Controller::SHORT, registers, Change::Nothing)
-}
-
-fn clear(registers: Registers) -> Effect
-    ensures { λ r. ⌜ resultOf r ≡ obeyOf Instruction.Clear registers ⌝ }
-{
-    done(0, Controller::LONG, homed(registers), Change::Clear)
-}
-
-fn home(registers: Registers) -> Effect
-    ensures { λ r. ⌜ resultOf r ≡ obeyOf Instruction.Home registers ⌝ }
-{
-    done(0, Controller::LONG, homed(registers), Change::Nothing)
-}
-
-fn entry_mode(registers: Registers, entry: Entry) -> Effect
-    ensures { λ r. ⌜ resultOf r ≡ obeyOf (Instruction.EntryMode entry) registers ⌝ }
-{
-    done(
-        0,
-        Controller::SHORT,
-        Registers { entry, ..registers },
-        Change::Nothing,
-    )
-}
-
-fn on_off(registers: Registers, lights: Lights) -> Effect
-    ensures { λ r. ⌜ resultOf r ≡ obeyOf (Instruction.OnOff lights) registers ⌝ }
-{
-    done(
-        0,
-        Controller::SHORT,
-        Registers {
-            lights,
-            ..registers
-        },
-        Change::Nothing,
-    )
 }
 
 fn moved(registers: Registers, display: bool, right: bool) -> Registers
@@ -93,17 +48,6 @@ fn moved(registers: Registers, display: bool, right: bool) -> Registers
     }
 }
 
-fn move_one(registers: Registers, display: bool, right: bool) -> Effect
-    ensures { λ r. ⌜ resultOf r ≡ obeyOf (Instruction.Move display right) registers ⌝ }
-{
-    done(
-        0,
-        Controller::SHORT,
-        moved(registers, display, right),
-        Change::Nothing,
-    )
-}
-
 // Where N changes, the counter's address may no longer exist.
 fn rearranged(registers: Registers, lines: LineMode) -> Registers
     ensures { λ r. ⌜ r ≡ rearrangedOf lines registers ⌝ }
@@ -122,37 +66,19 @@ fn rearranged(registers: Registers, lines: LineMode) -> Registers
     }
 }
 
-fn function_set(registers: Registers, bus: LineCount, mode: Mode) -> Effect
-    ensures { λ r. ⌜ resultOf r ≡ obeyOf (Instruction.FunctionSet bus mode) registers ⌝ }
+fn arranged(registers: Registers, bus: LineCount, mode: Mode) -> Registers
+    ensures { λ r. ⌜ r ≡ arrangedOf (rearrangedOf (mode .lines) registers) bus mode ⌝ }
 {
     let lines = mode.lines;
     let placed = rearranged(registers, lines);
-    done(
-        0,
-        Controller::SHORT,
-        Registers {
-            bus,
-            mode,
-            ..placed
-        },
-        Change::Nothing,
-    )
+    Registers {
+        bus,
+        mode,
+        ..placed
+    }
 }
 
-fn set_character(registers: Registers, address: CharacterAddress) -> Effect
-    ensures { λ r. ⌜ resultOf r ≡ obeyOf (Instruction.SetCharacter address) registers ⌝ }
-{
-    done(
-        0,
-        Controller::SHORT,
-        Registers {
-            counter: Counter::Character(address),
-            ..registers
-        },
-        Change::Nothing,
-    )
-}
-
+// Refused where the line mode lacks the address.
 fn set_display(registers: Registers, address: DisplayAddress) -> Effect
     ensures { λ r. ⌜ resultOf r ≡ obeyOf (Instruction.SetDisplay address) registers ⌝ }
 {
@@ -177,14 +103,45 @@ pub fn obey(registers: Registers, instruction: Instruction) -> Effect
     ensures { λ r. ⌜ resultOf r ≡ obeyOf instruction registers ⌝ }
 {
     match instruction {
-        Instruction::Nothing => nothing(registers),
-        Instruction::Clear => clear(registers),
-        Instruction::Home => home(registers),
-        Instruction::EntryMode(entry) => entry_mode(registers, entry),
-        Instruction::OnOff(lights) => on_off(registers, lights),
-        Instruction::Move { display, right } => move_one(registers, display, right),
-        Instruction::FunctionSet(bus, mode) => function_set(registers, bus, mode),
-        Instruction::SetCharacter(address) => set_character(registers, address),
+        Instruction::Nothing => done(0, Controller::SHORT, registers, Change::Nothing),
+        Instruction::Clear => done(0, Controller::LONG, homed(registers), Change::Clear),
+        Instruction::Home => done(0, Controller::LONG, homed(registers), Change::Nothing),
+        Instruction::EntryMode(entry) => done(
+            0,
+            Controller::SHORT,
+            Registers { entry, ..registers },
+            Change::Nothing,
+        ),
+        Instruction::OnOff(lights) => done(
+            0,
+            Controller::SHORT,
+            Registers {
+                lights,
+                ..registers
+            },
+            Change::Nothing,
+        ),
+        Instruction::Move { display, right } => done(
+            0,
+            Controller::SHORT,
+            moved(registers, display, right),
+            Change::Nothing,
+        ),
+        Instruction::FunctionSet(bus, mode) => done(
+            0,
+            Controller::SHORT,
+            arranged(registers, bus, mode),
+            Change::Nothing,
+        ),
+        Instruction::SetCharacter(address) => done(
+            0,
+            Controller::SHORT,
+            Registers {
+                counter: Counter::Character(address),
+                ..registers
+            },
+            Change::Nothing,
+        ),
         Instruction::SetDisplay(address) => set_display(registers, address),
     }
 }
