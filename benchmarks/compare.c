@@ -171,13 +171,12 @@ static void time_picture(const struct work *work)
            work->digits == 40 ? "2x40" : "80", proved, c, c / proved);
 }
 
-static void pass_alone(const char *which, struct work *work, long passes)
+static void pass_alone(const char *which, const struct work *work, long passes)
 {
     bool proved = strcmp(which, "proved") == 0;
     side *pass = work->digits ? (proved ? proved_picture : c_picture) : (proved ? proved_events : c_events);
     for (long at = 0; at < passes; at++)
         pass(work);
-    /* What to take off: the same passes with the picture refused. */
 }
 
 int main(int count, char **arguments)
