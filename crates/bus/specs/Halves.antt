@@ -53,14 +53,14 @@ firstHalf k r n v = record { number = 20; value = upper v * 16; registers = awai
 abbrev pub alike : Kind → Kind → Bool
 alike w k = Bool·beq (isData w) (isData k) && Bool·beq (isRead w) (isRead k)
 
--- the second completes the byte, which acts as it would on eight lines; a read answers the lower half; another kind completes nothing (refusal 2)
-unfoldable pub secondHalf : Kind → ℕ → Kind → Registers → (n v : ℕ) → Result
-secondHalf w u k r n v = cond (alike w k) (act k r (u * 16 + upper n) (lower v * 16)) (forgotten 2 r)
-
--- what a read answers with the transfer that completes it
+-- a read answers with the transfer that completes it: on eight lines the whole value, on four the lower half
 abbrev pub answered : LineCount → ℕ → ℕ
 answered Eight v = v
 answered Four v = lower v * 16
+
+-- the second completes the byte, which acts as it would on eight lines; another kind completes nothing (refusal 2)
+unfoldable pub secondHalf : Kind → ℕ → Kind → Registers → (n v : ℕ) → Result
+secondHalf w u k r n v = cond (alike w k) (act k r (u * 16 + upper n) (answered Four v)) (forgotten 2 r)
 
 unfoldable pub onFour : Half → Kind → Registers → (n v : ℕ) → Result
 onFour Half.Nothing k r n v = firstHalf k r n v

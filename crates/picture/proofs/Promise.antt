@@ -10,7 +10,7 @@ use Rattle.place.specs.declared.LineMode.{LineMode}
 use Rattle.place.specs.declared.LineMode.the-variants.{One, Two}
 use Rattle.place.specs.declared.shift.Shift.{Shift}
 use Rattle.place.specs.Shift.{lastShift, hasShift}
-use Rattle.place.proofs.Tests.{holds, and-right}
+use Rattle.place.proofs.Tests.{holds, and-left, and-right}
 use Rattle.controller.specs.declared.Controller.{Controller}
 use Rattle.controller.specs.declared.registers.Registers.{Registers}
 use Rattle.controller.specs.Part.{inRange}
@@ -22,6 +22,7 @@ use Rattle.picture.specs.Digit.{mostDigits}
 use Rattle.picture.specs.Table.{over}
 use Rattle.picture.specs.Picture.{bytesOf, pictureOf}
 use Rattle.picture.specs.Answers.{Asked, numberOf, hasDigits, answerFor, bufferFor, Pictured}
+use Rattle.picture.proofs.Marks.{most-small}
 use Rattle.picture.proofs.Dots.{length-picture}
 
 -- ---- what the tests tell
@@ -33,12 +34,14 @@ shift-small Two s t = omega (arith, leb→le (s .0) 39 t)
 shift-in-range : (r : Registers) → inRange r ≡ true → r .shift .0 < mostDigits (r .mode .lines)
 shift-in-range r h = shift-small (r .mode .lines) (r .shift) (facts r (holds (inRange r) h) .shift)
 
-digits-counted : (lines : LineMode) (digits : ℕ) → hasDigits lines digits ≡ true → digits ≤ mostDigits lines
+pub digits-counted : (lines : LineMode) (digits : ℕ) → hasDigits lines digits ≡ true → (1 ≤ digits) × (digits ≤ 80) × (digits ≤ mostDigits lines)
 unfolding hasDigits
-digits-counted lines digits h = leb→le digits (mostDigits lines) (and-right (leb 1 digits) _ (holds _ h))
+digits-counted lines digits h =
+    let most : digits ≤ mostDigits lines = leb→le digits (mostDigits lines) (and-right (leb 1 digits) _ (holds _ h)) in
+    (leb→le 1 digits (and-left (leb 1 digits) _ (holds _ h)), omega (arith, most-small lines), most)
 
 pub asked : (c : Controller) (digits romLength : ℕ) → inRange (c .registers) ≡ true → hasDigits (c .registers .mode .lines) digits ≡ true → romLength ≡ 4096 → Asked c digits romLength
-asked c digits romLength r d i = record { shifted = shift-in-range (c .registers) r; counted = digits-counted _ digits d; image = i }
+asked c digits romLength r d i = record { shifted = shift-in-range (c .registers) r; counted = digits-counted _ digits d .2; image = i }
 
 -- ---- what each answer leaves
 module _ (c : Controller) (digits : ℕ) (rom : List ℕ) (phase : Phase) (out : List ℕ) where

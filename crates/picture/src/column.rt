@@ -42,7 +42,7 @@ fn draw_rows(
     }
 }
 
-// The same: with 11 as a constant the tall rows are unrolled.
+// As draw_rows; the compiler unrolls the 11 rows of the tall font only where it sees their number.
 pub(crate) fn draw_column(
     character: &[u8; 64],
     rom: &[u8],

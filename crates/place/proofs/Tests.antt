@@ -10,10 +10,6 @@ pub is-true : (b : Bool) → T b → b ≡ true
 is-true true t = refl
 is-true false t = absurd t
 
-pub is-false : (b : Bool) → T (not b) → b ≡ false
-is-false true t = absurd t
-is-false false t = refl
-
 pub holds : (b : Bool) → b ≡ true → T b
 holds b e = subst T (sym e) tt
 

@@ -1,34 +1,21 @@
 -- Laws of the sheet: how long its parts are, and where its rows stand in the picture's bytes.
 use Prim.Native.Nat.{ℕ, _+_, _*_, _-_, _≤_}
 use mathlib.Core.Path.{_≡_, refl, _∙_}
-use mathlib.Core.Bool.{true}
 use mathlib.Core.List.{List}
 use native.Mathlib.Omega.{arith}
-use lib.Dec.{leb, leb→le}
 use lib.ListN.{length, take, drop, getD, length-append, length-drop}
 use lib.Seq.{take-length, getD-drop}
 use Rattle.place.specs.declared.LineMode.{LineMode}
 use Rattle.place.specs.declared.LineMode.the-variants.{One, Two}
-use Rattle.place.proofs.Tests.{holds, and-left, and-right}
 use Rattle.controller.specs.declared.registers.Mode.{Mode}
-use Rattle.picture.specs.Digit.{mostDigits}
 use Rattle.picture.specs.Picture.{rowsOf}
-use Rattle.picture.specs.Answers.{hasDigits}
 use Rattle.picture.proofs.Lists.{length-parts, length-table}
-use Rattle.picture.proofs.Marks.{most-small}
 use Rattle.sheet.specs.declared.Form.{Form}
 use Rattle.sheet.specs.declared.Form.the-variants.{Text, Image}
 use Rattle.text.specs.Text.{decimalOf}
 use Rattle.sheet.specs.Row.{textRow, imageRow}
 use Rattle.sheet.specs.Sheet.{headOf, rowIn, gapIn, between, lineIn, sheetOf}
 use Rattle.sheet.specs.Size.{rowSize, gapSize, linesSize, sizeOf}
-
--- ---- what the count of digits tells
-pub digits-counted : (lines : LineMode) (digits : ℕ) → hasDigits lines digits ≡ true → (1 ≤ digits) × (digits ≤ 80) × (digits ≤ mostDigits lines)
-unfolding hasDigits
-digits-counted lines digits h =
-    let most : digits ≤ mostDigits lines = leb→le digits (mostDigits lines) (and-right (leb 1 digits) _ (holds _ h)) in
-    (leb→le 1 digits (and-left (leb 1 digits) _ (holds _ h)), omega (arith, most-small lines), most)
 
 -- ---- lengths
 pub length-head : (width height : ℕ) → length (headOf Image width height) ≡ 5 + length (decimalOf width) + length (decimalOf height)

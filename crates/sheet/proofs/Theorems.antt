@@ -20,7 +20,8 @@ use Rattle.sheet.specs.Sheet.{heightOf, headOf}
 use Rattle.sheet.specs.Size.{rowSize, gapSize, linesSize, sizeOf}
 use Rattle.sheet.specs.Answers.{numberOf, countOf}
 use Rattle.sheet.specs.Claims.{OneOutcome, AtMost}
-use Rattle.sheet.proofs.Sheets.{digits-counted, length-head, length-sheet}
+use Rattle.picture.proofs.Promise.{digits-counted}
+use Rattle.sheet.proofs.Sheets.{length-head, length-sheet}
 
 -- ---- one outcome
 answerOf : (number count : ℕ) → Answer

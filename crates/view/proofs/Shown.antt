@@ -22,11 +22,11 @@ use Rattle.picture.specs.Table.{over}
 use Rattle.picture.specs.Picture.{rowsIn, bytesOf, pictureOf}
 use Rattle.picture.specs.Answers.{hasDigits, answerFor, bufferFor}
 use Rattle.picture.proofs.Dots.{length-picture}
+use Rattle.picture.proofs.Promise.{digits-counted}
 use Rattle.sheet.specs.declared.Answer.{Answer}
 use Rattle.sheet.specs.declared.Form.{Form}
 use Rattle.sheet.specs.Sheet.{sheetOf}
 use Rattle.sheet.specs.Answers.{countOf, writtenFor, Drawn, answerFor as sheetAnswer}
-use Rattle.sheet.proofs.Sheets.{digits-counted}
 use Rattle.sheet.proofs.Theorems.{at-most}
 use Rattle.view.specs.View.{shownOf}
 

@@ -9,7 +9,8 @@ use Rattle.picture.specs.Answers.{hasDigits}
 use Rattle.sheet.specs.Sheet.{sheetOf}
 use Rattle.sheet.specs.Answers.{answerFor}
 use Rattle.sheet.proofs.Promise.{refused, drawn}
-use Rattle.sheet.proofs.Sheets.{digits-counted, length-sheet}
+use Rattle.picture.proofs.Promise.{digits-counted}
+use Rattle.sheet.proofs.Sheets.{length-sheet}
 use Rattle.sheet.proofs.sheet.Statement.{statement}
 use Rattle.sheet.proofs.sheet.Tie as tie
 
