@@ -6,7 +6,7 @@ use mathlib.Core.List.{List, [], _∷_}
 use native.Mathlib.Omega.{arith}
 use borrow.Author.Tests.{eq-eqb}
 use lib.Dec.{T, eqb, T-not}
-use Rattle.place.proofs.Tests.{split, is-true, not-not, and-left, and-right}
+use Rattle.condition.proofs.Tests.{split, is-true, not-not, and-left, and-right}
 use Rattle.controller.specs.declared.Controller.{Controller}
 use Rattle.controller.specs.Part.{inRange, waited}
 use Rattle.controller.specs.Instructions.{Result, decode, lacking, obey}

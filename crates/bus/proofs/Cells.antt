@@ -7,11 +7,11 @@ use mathlib.Core.List.{List}
 use lib.ListN.{getD}
 use lib.Seq.{getD-set-other}
 use lib.Dec.{T, eqb, eqb→eq, T-not}
-use Rattle.place.specs.declared.LineMode.{LineMode}
-use Rattle.place.specs.declared.counter.Counter.{Counter}
-use Rattle.place.specs.declared.counter.Counter.the-variants.{Display, Character}
-use Rattle.place.specs.Address.{cellOf}
-use Rattle.place.proofs.Tests.{split, holds, neqb→ne}
+use Rattle.counters.specs.declared.LineMode.{LineMode}
+use Rattle.counters.specs.declared.counter.Counter.{Counter}
+use Rattle.counters.specs.declared.counter.Counter.the-variants.{Display, Character}
+use Rattle.counters.specs.Address.{cellOf}
+use Rattle.condition.proofs.Tests.{split, holds, neqb→ne}
 use Rattle.controller.specs.declared.Controller.{Controller}
 use Rattle.controller.specs.declared.change.Change.{Change}
 use Rattle.controller.specs.Instructions.{Result, decode, effectOf, ticksOf, changeOf, lacking, obey, done}

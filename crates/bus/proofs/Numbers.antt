@@ -4,7 +4,7 @@ use mathlib.Core.Path.{_≡_, refl, subst, sym, ap, _∙_}
 use mathlib.Core.Logic.{_↔_}
 use mathlib.Core.Bool.{Bool, true, false, cond, _&&_, not, Bool·beq}
 use lib.Dec.{T, eqb, eqb→eq, eqb-refl}
-use Rattle.place.proofs.Tests.{and-left, and-right}
+use Rattle.condition.proofs.Tests.{and-left, and-right}
 use Rattle.controller.specs.declared.Controller.{Controller}
 use Rattle.controller.specs.declared.half.Half.{Half}
 use Rattle.controller.specs.declared.half.LineCount.{LineCount}

@@ -3,7 +3,7 @@ use Prim.Native.Nat.{ℕ, _≤_}
 use mathlib.Core.Path.{_≡_, refl, subst⁻¹}
 use mathlib.Core.Bool.{Bool, true, false, cond, not}
 use lib.Dec.{T, leb, leb→le, lit≤}
-use Rattle.place.proofs.Tests.{split, holds, and-right}
+use Rattle.condition.proofs.Tests.{split, holds, and-right}
 use Rattle.controller.specs.declared.Controller.{Controller}
 use Rattle.controller.specs.declared.half.Half.{Half}
 use Rattle.bus.specs.declared.kind.Kind.{Kind}

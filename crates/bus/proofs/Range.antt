@@ -6,16 +6,16 @@ use mathlib.Core.List.{List, [], _∷_}
 use native.Mathlib.Omega.{arith}
 use lib.ListN.{replicate}
 use lib.Dec.{T, ltb, leb, le→leb, lit≤}
-use Rattle.place.specs.declared.LineMode.{LineMode}
-use Rattle.place.specs.declared.LineMode.the-variants.{One, Two}
-use Rattle.place.specs.declared.counter.Counter.{Counter}
-use Rattle.place.specs.declared.counter.Counter.the-variants.{Display, Character}
-use Rattle.place.specs.declared.shift.Shift.{Shift}
-use Rattle.place.specs.Address.{hasDisplay, hasCharacter}
-use Rattle.place.specs.Counter.{hasCounter, stepOf as counterStep}
-use Rattle.place.specs.Shift.{hasShift}
-use Rattle.place.proofs.Tests.{split, is-true, not-not, holds}
-use Rattle.place.proofs.Laws.{home-exists, no-shift-exists, step-exists, move-exists}
+use Rattle.counters.specs.declared.LineMode.{LineMode}
+use Rattle.counters.specs.declared.LineMode.the-variants.{One, Two}
+use Rattle.counters.specs.declared.counter.Counter.{Counter}
+use Rattle.counters.specs.declared.counter.Counter.the-variants.{Display, Character}
+use Rattle.counters.specs.declared.shift.Shift.{Shift}
+use Rattle.counters.specs.Address.{hasDisplay, hasCharacter}
+use Rattle.counters.specs.Counter.{hasCounter, stepOf as counterStep}
+use Rattle.counters.specs.Shift.{hasShift}
+use Rattle.condition.proofs.Tests.{split, is-true, not-not, holds}
+use Rattle.counters.proofs.Laws.{home-exists, no-shift-exists, step-exists, move-exists}
 use Rattle.controller.specs.declared.Controller.{Controller}
 use Rattle.controller.specs.declared.half.Half.{Half}
 use Rattle.controller.specs.declared.half.LineCount.{LineCount}

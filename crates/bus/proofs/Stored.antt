@@ -4,16 +4,16 @@ use mathlib.Core.Path.{_≡_, subst, subst⁻¹}
 use mathlib.Core.Bool.{true}
 use native.Mathlib.Omega.{arith}
 use lib.Dec.{T, lt→ltb, ltb→lt, leb→le}
-use Rattle.place.specs.declared.LineMode.{LineMode}
-use Rattle.place.specs.declared.address.DisplayAddress.{DisplayAddress}
-use Rattle.place.specs.declared.address.CharacterAddress.{CharacterAddress}
-use Rattle.place.specs.declared.address.Cell.{Cell}
-use Rattle.place.specs.declared.counter.Counter.{Counter}
-use Rattle.place.specs.declared.counter.Counter.the-variants.{Display, Character}
-use Rattle.place.specs.Address.{cellOf, hasCharacter}
-use Rattle.place.specs.Counter.{hasCounter}
-use Rattle.place.proofs.Tests.{holds, is-true}
-use Rattle.place.proofs.Laws.{cell-exists}
+use Rattle.counters.specs.declared.LineMode.{LineMode}
+use Rattle.counters.specs.declared.address.DisplayAddress.{DisplayAddress}
+use Rattle.counters.specs.declared.address.CharacterAddress.{CharacterAddress}
+use Rattle.counters.specs.declared.address.Cell.{Cell}
+use Rattle.counters.specs.declared.counter.Counter.{Counter}
+use Rattle.counters.specs.declared.counter.Counter.the-variants.{Display, Character}
+use Rattle.counters.specs.Address.{cellOf, hasCharacter}
+use Rattle.counters.specs.Counter.{hasCounter}
+use Rattle.condition.proofs.Tests.{holds, is-true}
+use Rattle.counters.proofs.Laws.{cell-exists}
 use Rattle.bus.specs.declared.kind.Kind.{Kind}
 use Rattle.controller.specs.declared.instruction.Instruction.{Instruction}
 use Rattle.controller.specs.declared.instruction.Instruction.the-variants.{Nothing, Clear, Home, EntryMode, OnOff, Move, FunctionSet, SetCharacter, SetDisplay}

@@ -2,11 +2,11 @@
 use Prim.Native.Nat.{ℕ, _+_}
 use mathlib.Core.Bool.{cond, not}
 use lib.Dec.{eqb}
-use Rattle.place.specs.declared.counter.Counter.{Counter}
-use Rattle.place.specs.declared.counter.Counter.the-variants.{Display, Character}
-use Rattle.place.specs.declared.shift.Shift.{Shift}
-use Rattle.place.specs.Counter.{stepOf, numberOn}
-use Rattle.place.specs.Shift.{moveOf}
+use Rattle.counters.specs.declared.counter.Counter.{Counter}
+use Rattle.counters.specs.declared.counter.Counter.the-variants.{Display, Character}
+use Rattle.counters.specs.declared.shift.Shift.{Shift}
+use Rattle.counters.specs.Counter.{stepOf, numberOn}
+use Rattle.counters.specs.Shift.{moveOf}
 use Rattle.controller.specs.declared.change.Change.{Change}
 use Rattle.controller.specs.declared.registers.Registers.{Registers}
 use Rattle.controller.specs.Part.{placed}

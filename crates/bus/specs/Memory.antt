@@ -4,10 +4,10 @@ use mathlib.Core.Bool.{Bool, true}
 use mathlib.Core.List.{List}
 use lib.ListN.{replicate, set, getD}
 use lib.Dec.{ltb}
-use Rattle.place.specs.declared.LineMode.{LineMode}
-use Rattle.place.specs.declared.counter.Counter.{Counter}
-use Rattle.place.specs.declared.counter.Counter.the-variants.{Display, Character}
-use Rattle.place.specs.Address.{cellOf, hasCharacter}
+use Rattle.counters.specs.declared.LineMode.{LineMode}
+use Rattle.counters.specs.declared.counter.Counter.{Counter}
+use Rattle.counters.specs.declared.counter.Counter.the-variants.{Display, Character}
+use Rattle.counters.specs.Address.{cellOf, hasCharacter}
 use Rattle.controller.specs.declared.change.Change.{Change}
 
 -- the addressed byte: display memory is addressed by its cell, character memory as the bus names it

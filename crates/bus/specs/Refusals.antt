@@ -4,7 +4,7 @@ use mathlib.Core.Path.{_≡_}
 use mathlib.Core.Bool.{Bool, true, false, _&&_, not}
 use mathlib.Core.Logic.{_↔_}
 use lib.Dec.{T}
-use Rattle.place.specs.declared.LineMode.{LineMode}
+use Rattle.counters.specs.declared.LineMode.{LineMode}
 use Rattle.controller.specs.declared.Controller.{Controller}
 use Rattle.controller.specs.declared.half.Half.{Half}
 use Rattle.controller.specs.declared.half.LineCount.{LineCount}

@@ -6,10 +6,10 @@ use mathlib.Core.Bool.{Bool, false, _&&_, cond, not}
 use mathlib.Core.List.{List}
 use lib.ListN.{getD, replicate}
 use lib.Dec.{T, eqb}
-use Rattle.place.specs.declared.LineMode.{LineMode}
-use Rattle.place.specs.declared.counter.Counter.{Counter}
-use Rattle.place.specs.declared.counter.Counter.the-variants.{Display, Character}
-use Rattle.place.specs.Address.{cellOf}
+use Rattle.counters.specs.declared.LineMode.{LineMode}
+use Rattle.counters.specs.declared.counter.Counter.{Counter}
+use Rattle.counters.specs.declared.counter.Counter.the-variants.{Display, Character}
+use Rattle.counters.specs.Address.{cellOf}
 use Rattle.controller.specs.declared.Controller.{Controller}
 use Rattle.controller.specs.declared.effect.Effect.{Effect}
 use Rattle.controller.specs.declared.half.Half.{Half}

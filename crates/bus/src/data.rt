@@ -1,7 +1,7 @@
 // Data and status: what a data write, a data read and a status read do.
 ghost use mathlib.Core.Path.{_≡_};
 ghost use mathlib.Core.Bool.{true};
-ghost use Rattle.place.specs.Counter.{hasCounter};
+ghost use Rattle.counters.specs.Counter.{hasCounter};
 ghost use Rattle.bus.specs.Memory.{storeAt};
 ghost use Rattle.controller.specs.Instructions.{resultOf};
 ghost use Rattle.bus.specs.Data.{shiftAfter, writeData, readData, readStatus, readOf};
@@ -11,9 +11,9 @@ use controller::change::Change;
 use controller::effect::Effect;
 use controller::effect::done;
 use controller::registers::Registers;
-use place::LineMode;
-use place::counter::Counter;
-use place::shift::Shift;
+use counters::LineMode;
+use counters::counter::Counter;
+use counters::shift::Shift;
 
 fn store(lines: LineMode, counter: Counter, byte: u8) -> Change
     ensures { λ r. ⌜ r ≡ storeAt lines counter byte ⌝ }

@@ -1,11 +1,11 @@
 // The two memories, lent: the byte that the counter addresses, and a change carried out.
 ghost use mathlib.Core.Path.{_≡_};
 ghost use mathlib.Core.Bool.{true};
-ghost use Rattle.place.specs.Counter.{hasCounter};
+ghost use Rattle.counters.specs.Counter.{hasCounter};
 ghost use Rattle.bus.specs.Memory.{byteAt, changeFits, displayAfter, characterAfter};
 use controller::change::Change;
 use controller::registers::Registers;
-use place::counter::Counter;
+use counters::counter::Counter;
 
 // The byte that the counter addresses.
 pub(crate) fn addressed(display: &[u8; 80], character: &[u8; 64], registers: Registers) -> u8

@@ -5,8 +5,8 @@ use mathlib.Core.Bool.{not}
 use native.Mathlib.Omega.{arith}
 use borrow.Author.Tests.{lt-ltb, le-ltb}
 use lib.Dec.{T, ltb, eqb, ltb→lt, nltb→le}
-use Rattle.place.specs.Address.{display, character}
-use Rattle.place.proofs.Tests.{split, neqb→ne}
+use Rattle.counters.specs.Address.{display, character}
+use Rattle.condition.proofs.Tests.{split, neqb→ne}
 use Rattle.controller.specs.declared.change.Change.{Change}
 use Rattle.controller.specs.declared.instruction.Instruction.{Instruction}
 use Rattle.controller.specs.declared.instruction.Instruction.the-variants.{Nothing, Clear, Home, EntryMode, OnOff, Move, FunctionSet, SetCharacter, SetDisplay}

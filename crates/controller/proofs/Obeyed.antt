@@ -3,7 +3,7 @@ use Prim.Native.Nat.{ℕ}
 use mathlib.Core.Path.{_≡_, refl}
 use mathlib.Core.Bool.{not, _||_}
 use lib.Dec.{T, eqb}
-use Rattle.place.proofs.Tests.{split}
+use Rattle.condition.proofs.Tests.{split}
 use Rattle.controller.specs.declared.change.Change.{Change}
 use Rattle.controller.specs.declared.half.Half.{Half}
 use Rattle.controller.specs.declared.half.LineCount.{LineCount}

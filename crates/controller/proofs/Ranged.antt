@@ -3,9 +3,9 @@ use Prim.Native.Nat.{_≤_}
 use mathlib.Core.Path.{_≡_}
 use mathlib.Core.Bool.{Bool, true, _&&_}
 use lib.Dec.{T, leb, leb→le, le→leb}
-use Rattle.place.specs.Counter.{hasCounter}
-use Rattle.place.specs.Shift.{hasShift}
-use Rattle.place.proofs.Tests.{holds, is-true, and-left, and-right, and-both}
+use Rattle.counters.specs.Counter.{hasCounter}
+use Rattle.counters.specs.Shift.{hasShift}
+use Rattle.condition.proofs.Tests.{holds, is-true, and-left, and-right, and-both}
 use Rattle.controller.specs.declared.registers.Registers.{Registers}
 use Rattle.controller.specs.Part.{inRange, halfFits}
 

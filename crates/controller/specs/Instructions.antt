@@ -2,14 +2,14 @@
 use Prim.Native.Nat.{ℕ, _/_, _%_, _^_}
 use mathlib.Core.Bool.{Bool, true, false, cond, not}
 use lib.Dec.{ltb, eqb}
-use Rattle.place.specs.declared.LineMode.{LineMode}
-use Rattle.place.specs.declared.LineMode.the-variants.{One, Two}
-use Rattle.place.specs.declared.counter.Counter.{Counter}
-use Rattle.place.specs.declared.counter.Counter.the-variants.{Display, Character}
-use Rattle.place.specs.declared.shift.Shift.{Shift}
-use Rattle.place.specs.Address.{display, character, hasDisplay}
-use Rattle.place.specs.Counter.{stepOf}
-use Rattle.place.specs.Shift.{shift, moveOf}
+use Rattle.counters.specs.declared.LineMode.{LineMode}
+use Rattle.counters.specs.declared.LineMode.the-variants.{One, Two}
+use Rattle.counters.specs.declared.counter.Counter.{Counter}
+use Rattle.counters.specs.declared.counter.Counter.the-variants.{Display, Character}
+use Rattle.counters.specs.declared.shift.Shift.{Shift}
+use Rattle.counters.specs.Address.{display, character, hasDisplay}
+use Rattle.counters.specs.Counter.{stepOf}
+use Rattle.counters.specs.Shift.{shift, moveOf}
 use Rattle.controller.specs.declared.half.Half.{Half}
 use Rattle.controller.specs.declared.half.LineCount.{LineCount}
 use Rattle.controller.specs.declared.half.LineCount.the-variants.{Eight, Four}

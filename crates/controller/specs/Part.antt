@@ -4,13 +4,13 @@ use mathlib.Core.Bool.{Bool, true, false, _&&_}
 use mathlib.Core.List.{List}
 use lib.ListN.{replicate}
 use lib.Dec.{leb}
-use Rattle.place.specs.declared.LineMode.the-variants.{One}
-use Rattle.place.specs.declared.counter.Counter.{Counter}
-use Rattle.place.specs.declared.counter.Counter.the-variants.{Display}
-use Rattle.place.specs.declared.shift.Shift.{Shift}
-use Rattle.place.specs.Address.{display}
-use Rattle.place.specs.Counter.{hasCounter}
-use Rattle.place.specs.Shift.{shift, hasShift}
+use Rattle.counters.specs.declared.LineMode.the-variants.{One}
+use Rattle.counters.specs.declared.counter.Counter.{Counter}
+use Rattle.counters.specs.declared.counter.Counter.the-variants.{Display}
+use Rattle.counters.specs.declared.shift.Shift.{Shift}
+use Rattle.counters.specs.Address.{display}
+use Rattle.counters.specs.Counter.{hasCounter}
+use Rattle.counters.specs.Shift.{shift, hasShift}
 use Rattle.controller.specs.declared.Controller.{Controller}
 use Rattle.controller.specs.declared.half.LineCount.{LineCount}
 use Rattle.controller.specs.declared.half.LineCount.the-variants.{Eight, Four}

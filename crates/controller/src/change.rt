@@ -1,6 +1,6 @@
 // The four things that a transfer can do to the two memories.
-use place::address::Cell;
-use place::address::CharacterAddress;
+use counters::address::Cell;
+use counters::address::CharacterAddress;
 
 pub enum Change {
     Nothing,

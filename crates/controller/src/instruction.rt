@@ -5,9 +5,9 @@ use super::half::LineCount;
 use super::registers::Entry;
 use super::registers::Lights;
 use super::registers::Mode;
-use place::LineMode;
-use place::address::CharacterAddress;
-use place::address::DisplayAddress;
+use counters::LineMode;
+use counters::address::CharacterAddress;
+use counters::address::DisplayAddress;
 
 pub enum Instruction {
     Nothing,

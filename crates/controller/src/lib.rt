@@ -10,12 +10,12 @@ pub mod instruction;
 pub mod obey;
 pub mod registers;
 
+use counters::LineMode;
+use counters::address::DisplayAddress;
+use counters::counter::Counter;
+use counters::shift::Shift;
 use half::Half;
 use half::LineCount;
-use place::LineMode;
-use place::address::DisplayAddress;
-use place::counter::Counter;
-use place::shift::Shift;
 use registers::Entry;
 use registers::Lights;
 use registers::Mode;

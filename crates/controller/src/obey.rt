@@ -12,10 +12,10 @@ use super::half::LineCount;
 use super::instruction::Instruction;
 use super::registers::Mode;
 use super::registers::Registers;
-use place::LineMode;
-use place::address::DisplayAddress;
-use place::counter::Counter;
-use place::shift::Shift;
+use counters::LineMode;
+use counters::address::DisplayAddress;
+use counters::counter::Counter;
+use counters::shift::Shift;
 
 // Address 00 of display memory and shift 0.
 fn homed(registers: Registers) -> Registers

@@ -4,9 +4,9 @@ ghost use Rattle.controller.specs.Part.{inRange, waited as waitedOf};
 use super::Controller;
 use super::half::Half;
 use super::half::LineCount;
-use place::LineMode;
-use place::counter::Counter;
-use place::shift::Shift;
+use counters::LineMode;
+use counters::counter::Counter;
+use counters::shift::Shift;
 
 // N and F.
 pub struct Mode {

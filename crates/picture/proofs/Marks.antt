@@ -5,13 +5,13 @@ use mathlib.Core.Bool.{Bool, true, false}
 use native.Mathlib.Omega.{arith}
 use lib.Dec.{T, eqb}
 use borrow.Author.Tests.{eq-eqb, ne-eqb, eqb-true, eqb-false}
-use Rattle.place.specs.declared.LineMode.{LineMode}
-use Rattle.place.specs.declared.LineMode.the-variants.{One, Two}
-use Rattle.place.specs.declared.address.DisplayAddress.{DisplayAddress}
-use Rattle.place.specs.declared.address.Cell.{Cell}
-use Rattle.place.specs.declared.shift.Shift.{Shift}
-use Rattle.place.specs.Address.{display, cell, hasDisplay, cellOf, addressOf}
-use Rattle.place.proofs.Laws.{address-of-cell-of, cell-of-address-of, address-exists}
+use Rattle.counters.specs.declared.LineMode.{LineMode}
+use Rattle.counters.specs.declared.LineMode.the-variants.{One, Two}
+use Rattle.counters.specs.declared.address.DisplayAddress.{DisplayAddress}
+use Rattle.counters.specs.declared.address.Cell.{Cell}
+use Rattle.counters.specs.declared.shift.Shift.{Shift}
+use Rattle.counters.specs.Address.{display, cell, hasDisplay, cellOf, addressOf}
+use Rattle.counters.proofs.Laws.{address-of-cell-of, cell-of-address-of, address-exists}
 use Rattle.picture.specs.Digit.{linesOf, mostDigits, shownOn}
 
 pub most-small : (lines : LineMode) → mostDigits lines ≤ 80

@@ -6,11 +6,11 @@ use mathlib.Core.List.{List, _++_}
 use native.Mathlib.Omega.{arith}
 use lib.Dec.{T, leb, eqb, leb→le}
 use lib.ListN.{length, drop}
-use Rattle.place.specs.declared.LineMode.{LineMode}
-use Rattle.place.specs.declared.LineMode.the-variants.{One, Two}
-use Rattle.place.specs.declared.shift.Shift.{Shift}
-use Rattle.place.specs.Shift.{lastShift, hasShift}
-use Rattle.place.proofs.Tests.{holds, and-left, and-right}
+use Rattle.counters.specs.declared.LineMode.{LineMode}
+use Rattle.counters.specs.declared.LineMode.the-variants.{One, Two}
+use Rattle.counters.specs.declared.shift.Shift.{Shift}
+use Rattle.counters.specs.Shift.{lastShift, hasShift}
+use Rattle.condition.proofs.Tests.{holds, and-left, and-right}
 use Rattle.controller.specs.declared.Controller.{Controller}
 use Rattle.controller.specs.declared.registers.Registers.{Registers}
 use Rattle.controller.specs.Part.{inRange}

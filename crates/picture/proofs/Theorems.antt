@@ -10,11 +10,11 @@ use lib.Dec.{eqb, ltb, ltb→lt}
 use lib.ListN.{length, drop, getD, length-append, length-drop, List·getD-append}
 use lib.Seq.{getD-drop, getD-append-add, getD-set-other}
 use borrow.Author.Tests.{ne-eqb, leb-true}
-use Rattle.place.specs.declared.LineMode.the-variants.{Two}
-use Rattle.place.specs.declared.address.Cell.{Cell}
-use Rattle.place.specs.Address.{addressOf}
-use Rattle.place.specs.Counter.{numberOn}
-use Rattle.place.proofs.Tests.{split}
+use Rattle.counters.specs.declared.LineMode.the-variants.{Two}
+use Rattle.counters.specs.declared.address.Cell.{Cell}
+use Rattle.counters.specs.Address.{addressOf}
+use Rattle.counters.specs.Counter.{numberOn}
+use Rattle.condition.proofs.Tests.{split}
 use Rattle.controller.specs.declared.Controller.{Controller}
 use Rattle.controller.specs.declared.registers.Mode.{Mode}
 use Rattle.controller.specs.Part.{inRange}

@@ -5,7 +5,7 @@ use mathlib.Core.Bool.{Bool, cond, _&&_}
 use mathlib.Core.List.{List}
 use lib.Dec.{leb, eqb}
 use lib.ListN.{length}
-use Rattle.place.specs.declared.LineMode.{LineMode}
+use Rattle.counters.specs.declared.LineMode.{LineMode}
 use Rattle.controller.specs.declared.Controller.{Controller}
 use Rattle.controller.specs.Part.{inRange}
 use Rattle.picture.specs.declared.Answer.{Answer}

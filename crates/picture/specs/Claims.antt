@@ -4,9 +4,9 @@ use mathlib.Core.Path.{_≡_}
 use mathlib.Core.Bool.{true, false}
 use mathlib.Core.List.{List}
 use lib.ListN.{length, getD, set, replicate}
-use Rattle.place.specs.declared.LineMode.the-variants.{Two}
-use Rattle.place.specs.declared.address.Cell.{Cell}
-use Rattle.place.specs.Counter.{numberOn}
+use Rattle.counters.specs.declared.LineMode.the-variants.{Two}
+use Rattle.counters.specs.declared.address.Cell.{Cell}
+use Rattle.counters.specs.Counter.{numberOn}
 use Rattle.controller.specs.declared.Controller.{Controller}
 use Rattle.controller.specs.declared.registers.Registers.{Registers}
 use Rattle.controller.specs.Part.{inRange}

@@ -1,10 +1,10 @@
 -- "The picture": the cell that a digit shows.
 use Prim.Native.Nat.{ℕ, _+_, _*_, _%_}
-use Rattle.place.specs.declared.LineMode.{LineMode}
-use Rattle.place.specs.declared.LineMode.the-variants.{One, Two}
-use Rattle.place.specs.declared.address.Cell.{Cell}
-use Rattle.place.specs.declared.shift.Shift.{Shift}
-use Rattle.place.specs.Address.{cell}
+use Rattle.counters.specs.declared.LineMode.{LineMode}
+use Rattle.counters.specs.declared.LineMode.the-variants.{One, Two}
+use Rattle.counters.specs.declared.address.Cell.{Cell}
+use Rattle.counters.specs.declared.shift.Shift.{Shift}
+use Rattle.counters.specs.Address.{cell}
 
 -- N = 0 is one line
 unfoldable pub linesOf : LineMode → ℕ

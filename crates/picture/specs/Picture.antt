@@ -4,11 +4,11 @@ use mathlib.Core.Bool.{Bool, true, false, cond, _&&_, _||_}
 use mathlib.Core.List.{List}
 use lib.Dec.{ltb, eqb}
 use lib.ListN.{getD}
-use Rattle.place.specs.declared.LineMode.{LineMode}
-use Rattle.place.specs.declared.LineMode.the-variants.{One, Two}
-use Rattle.place.specs.declared.address.Cell.{Cell}
-use Rattle.place.specs.Address.{addressOf}
-use Rattle.place.specs.Counter.{numberOn}
+use Rattle.counters.specs.declared.LineMode.{LineMode}
+use Rattle.counters.specs.declared.LineMode.the-variants.{One, Two}
+use Rattle.counters.specs.declared.address.Cell.{Cell}
+use Rattle.counters.specs.Address.{addressOf}
+use Rattle.counters.specs.Counter.{numberOn}
 use Rattle.controller.specs.declared.Controller.{Controller}
 use Rattle.controller.specs.declared.registers.Mode.{Mode}
 use Rattle.controller.specs.declared.registers.Registers.{Registers}

@@ -2,9 +2,9 @@
 ghost use mathlib.Core.Path.{_≡_};
 ghost use Prim.Native.Nat.{_<_};
 ghost use Rattle.picture.specs.Digit.{linesOf, mostDigits, shownOn};
-use place::LineMode;
-use place::address::Cell;
-use place::shift::Shift;
+use counters::LineMode;
+use counters::address::Cell;
+use counters::shift::Shift;
 
 pub(crate) fn shown(lines: LineMode, shift: Shift, line: u8, digit: u8) -> Cell
     requires { ⌜ (shift .0 < mostDigits lines) × (line < linesOf lines) × (digit < mostDigits lines) ⌝ }

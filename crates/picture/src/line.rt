@@ -14,8 +14,8 @@ use super::mark::Mark;
 use super::mark::draw_mark;
 use super::size::row_count;
 use controller::Controller;
-use place::LineMode;
-use place::shift::Shift;
+use counters::LineMode;
+use counters::shift::Shift;
 
 // The pattern of each digit's code.
 fn draw_columns<'a>(

@@ -4,15 +4,15 @@ ghost use mathlib.Core.Bool.{cond, _&&_};
 ghost use Prim.Native.Nat.{ℕ, _+_, _*_, _≤_, _<_};
 ghost use lib.Dec.{eqb};
 ghost use lib.ListN.{length, getD};
-ghost use Rattle.place.specs.Address.{addressOf};
+ghost use Rattle.counters.specs.Address.{addressOf};
 ghost use Rattle.picture.specs.Digit.{linesOf, mostDigits, shownOn};
 ghost use Rattle.picture.specs.Table.{Column};
 ghost use Rattle.picture.specs.Picture.{isDark, isMarked, isSet};
 use super::Phase;
 use controller::registers::Registers;
-use place::LineMode;
-use place::address::DisplayAddress;
-use place::shift::Shift;
+use counters::LineMode;
+use counters::address::DisplayAddress;
+use counters::shift::Shift;
 
 // The digit whose display address equals the counter, any number past the line where there is none;
 // whether the cursor sets its last row, and whether blink sets all its rows.

@@ -5,7 +5,7 @@ ghost use Rattle.picture.specs.Digit.{linesOf, mostDigits};
 ghost use Rattle.picture.specs.Picture.{rowsOf, bytesOf};
 ghost use Rattle.picture.specs.Answers.{hasDigits as hasDigitsOn};
 use controller::registers::Mode;
-use place::LineMode;
+use counters::LineMode;
 
 fn most_digits(lines: LineMode) -> u8
     ensures { λ r. ⌜ (r ≡ mostDigits lines) × (r ≤ 80) ⌝ }

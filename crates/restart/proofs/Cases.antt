@@ -1,8 +1,8 @@
 -- P1 to P11 hold, by computation.
 use mathlib.Core.Path.{refl}
-use Rattle.place.specs.Address.{hasDisplay, cellOf, hasCharacter, upDisplay, downDisplay, upCharacter, downCharacter}
-use Rattle.place.specs.Counter.{hasCounter, stepOf as counterStep, numberOn}
-use Rattle.place.specs.Shift.{lastShift, hasShift, leftOf, rightOf, moveOf}
+use Rattle.counters.specs.Address.{hasDisplay, cellOf, hasCharacter, upDisplay, downDisplay, upCharacter, downCharacter}
+use Rattle.counters.specs.Counter.{hasCounter, stepOf as counterStep, numberOn}
+use Rattle.counters.specs.Shift.{lastShift, hasShift, leftOf, rightOf, moveOf}
 use Rattle.controller.specs.Part.{isFour, halfFits, inRange, freshRegisters, freshWith, switchedOn, waited}
 use Rattle.controller.specs.Instructions.{bit, decode, moved, counterFor, shiftFor, rearranged, effectOf, changeOf, ticksOf, lacking, obey}
 use Rattle.bus.specs.Memory.{byteAt, storeAt, displayAfter, characterAfter}

@@ -4,7 +4,7 @@ use mathlib.Core.Path.{_≡_, ap, _∙_, subst, subst⁻¹}
 use mathlib.Core.List.{List, [], _∷_}
 use native.Mathlib.Omega.{arith}
 use lib.Dec.{T}
-use Rattle.place.proofs.Tests.{holds, is-true}
+use Rattle.condition.proofs.Tests.{holds, is-true}
 use Rattle.controller.specs.declared.Controller.{Controller}
 use Rattle.controller.specs.declared.change.Change.{Change}
 use Rattle.controller.specs.declared.registers.Registers.{Registers}

@@ -6,10 +6,10 @@ use mathlib.Core.List.{List, [], _∷_}
 use native.Mathlib.Omega.{arith}
 use lib.ListN.{drop}
 use lib.Dec.{T, ltb, eqb, ltb→lt, eqb→eq, not-T}
-use Rattle.place.specs.declared.LineMode.the-variants.{Two}
-use Rattle.place.specs.declared.counter.Counter.the-variants.{Display}
-use Rattle.place.specs.Address.{display}
-use Rattle.place.specs.Shift.{shift}
+use Rattle.counters.specs.declared.LineMode.the-variants.{Two}
+use Rattle.counters.specs.declared.counter.Counter.the-variants.{Display}
+use Rattle.counters.specs.Address.{display}
+use Rattle.counters.specs.Shift.{shift}
 use Rattle.controller.specs.declared.change.Change.{Change}
 use Rattle.controller.specs.declared.half.Half.{Half}
 use Rattle.controller.specs.declared.half.LineCount.{LineCount}

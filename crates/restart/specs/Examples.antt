@@ -3,8 +3,8 @@ use Prim.Native.Nat.{ℕ}
 use mathlib.Core.Path.{_≡_}
 use mathlib.Core.List.{List, [], _∷_, _++_, map}
 use lib.ListN.{getD, replicate}
-use Rattle.place.specs.declared.counter.Counter.{Counter}
-use Rattle.place.specs.declared.counter.Counter.the-variants.{Display, Character}
+use Rattle.counters.specs.declared.counter.Counter.{Counter}
+use Rattle.counters.specs.declared.counter.Counter.the-variants.{Display, Character}
 use Rattle.controller.specs.declared.Controller.{Controller}
 use Rattle.bus.specs.declared.kind.Kind.the-variants.{InstructionWrite, DataWrite, StatusRead}
 use Rattle.bus.specs.declared.event.Event.{Event}

@@ -2,8 +2,8 @@
 use Prim.Native.Nat.{ℕ, _+_, _*_, _-_}
 use mathlib.Core.List.{List, [], _++_}
 use lib.ListN.{getD}
-use Rattle.place.specs.declared.LineMode.{LineMode}
-use Rattle.place.specs.declared.LineMode.the-variants.{One, Two}
+use Rattle.counters.specs.declared.LineMode.{LineMode}
+use Rattle.counters.specs.declared.LineMode.the-variants.{One, Two}
 use Rattle.controller.specs.declared.registers.Mode.{Mode}
 use Rattle.picture.specs.Digit.{linesOf}
 use Rattle.picture.specs.Table.{parts}

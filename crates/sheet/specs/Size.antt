@@ -1,8 +1,8 @@
 -- How many bytes a sheet has.
 use Prim.Native.Nat.{ℕ, _+_, _*_, _/_}
 use lib.ListN.{length}
-use Rattle.place.specs.declared.LineMode.{LineMode}
-use Rattle.place.specs.declared.LineMode.the-variants.{One, Two}
+use Rattle.counters.specs.declared.LineMode.{LineMode}
+use Rattle.counters.specs.declared.LineMode.the-variants.{One, Two}
 use Rattle.controller.specs.declared.registers.Mode.{Mode}
 use Rattle.picture.specs.Picture.{rowsOf}
 use Rattle.sheet.specs.declared.Form.{Form}

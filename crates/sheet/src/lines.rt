@@ -2,7 +2,7 @@
 ghost use mathlib.Core.Path.{_≡_};
 ghost use Prim.Native.Nat.{_+_, _*_, _≤_};
 ghost use lib.ListN.{length};
-ghost use Rattle.place.specs.declared.LineMode.the-variants.{Two};
+ghost use Rattle.counters.specs.declared.LineMode.the-variants.{Two};
 ghost use Rattle.picture.specs.Picture.{rowsOf, bytesOf};
 ghost use Rattle.sheet.specs.Sheet.{gapIn, between, lineIn, sheetOf};
 ghost use Rattle.sheet.specs.Size.{rowSize, gapSize, linesSize, sizeOf};
@@ -15,8 +15,8 @@ use super::size::gap_size;
 use super::size::height;
 use super::size::row_size;
 use controller::registers::Mode;
+use counters::LineMode;
 use picture::size::row_count;
-use place::LineMode;
 
 fn draw_line(form: Form, rows: usize, digits: usize, dots: &[u8], line: usize, out: &mut [u8])
     requires { ⌜ (1 ≤ digits) × (digits ≤ 80) × (rows ≤ 11) × (line ≤ 1) × (line * (rows * digits) + rows * digits ≤ length (now dots)) × (length (now out) ≡ rows * rowSize form digits) ⌝ }

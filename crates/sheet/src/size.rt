@@ -8,8 +8,8 @@ ghost use Rattle.sheet.specs.Size.{rowSize, gapSize, linesSize, sizeOf};
 use super::Form;
 use super::row::width;
 use controller::registers::Mode;
+use counters::LineMode;
 use picture::size::row_count;
-use place::LineMode;
 use text::digit_count;
 
 pub(crate) fn height(mode: Mode) -> usize

@@ -5,7 +5,7 @@ use mathlib.Core.Bool.{true}
 use mathlib.Core.List.{List, map}
 use borrow.Author.Tests.{lt-ltb, le-ltb, eq-eqb, ne-eqb}
 use lib.ListN.{length}
-use Rattle.place.proofs.Tests.{is-true}
+use Rattle.condition.proofs.Tests.{is-true}
 use Rattle.controller.specs.declared.Controller.{Controller}
 use Rattle.controller.specs.Part.{inRange, switchedOn}
 use Rattle.text.specs.Text.{textOf, refusedOf}

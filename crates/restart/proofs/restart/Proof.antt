@@ -8,7 +8,7 @@ use borrow.Author.Needs.{needs}
 use borrow.Author.Tests.{not-true, not-false}
 use lib.ListN.{getD}
 use lib.Dec.{leb, leb→le}
-use Rattle.place.proofs.Tests.{each}
+use Rattle.condition.proofs.Tests.{each}
 use Rattle.controller.specs.declared.Controller.{Controller}
 use Rattle.controller.specs.declared.answer.Answer.{Answer}
 use Rattle.bus.specs.Transfer.{told}

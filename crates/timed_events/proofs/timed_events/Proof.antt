@@ -6,7 +6,7 @@ use mathlib.Core.List.{[]}
 use native.Mathlib.Omega.{arith}
 use borrow.Author.Needs.{needs}
 use lib.ListN.{length}
-use Rattle.place.proofs.Tests.{is-true}
+use Rattle.condition.proofs.Tests.{is-true}
 use Rattle.controller.specs.declared.Controller.{Controller}
 use Rattle.controller.specs.Part.{inRange, switchedOn}
 use Rattle.bus.specs.Transfer.{with}

@@ -4,11 +4,11 @@ use Rattle.bus.proofs.data.shift_after.Statement.{statement}
 use Rattle.bus.proofs.data.shift_after.Tie as tie
 use mathlib.Core.Path.{_≡_, _∙_, ap, sym}
 use mathlib.Core.Bool.{Bool, true, cond, not}
-use Rattle.place.specs.declared.address.DisplayAddress.{DisplayAddress}
-use Rattle.place.specs.declared.counter.Counter.{Counter}
-use Rattle.place.specs.declared.counter.Counter.the-variants.{Display}
-use Rattle.place.specs.declared.shift.Shift.{Shift}
-use Rattle.place.specs.Shift.{moveOf}
+use Rattle.counters.specs.declared.address.DisplayAddress.{DisplayAddress}
+use Rattle.counters.specs.declared.counter.Counter.{Counter}
+use Rattle.counters.specs.declared.counter.Counter.the-variants.{Display}
+use Rattle.counters.specs.declared.shift.Shift.{Shift}
+use Rattle.counters.specs.Shift.{moveOf}
 use Rattle.controller.specs.declared.registers.Registers.{Registers}
 
 shift-after : (r : Registers) {k : Counter} {a : DisplayAddress} {s : Shift} → k ≡ Display a → r .entry .shifts ≡ true

@@ -1,9 +1,9 @@
 use Prim.Native.Nat.{_<_}
 use native.Mathlib.Omega.{arith}
 use borrow.Author.Tests.{eq-eqb, ne-eqb}
-use Rattle.place.specs.Counter.{numberOn}
-use Rattle.place.proofs.Tests.{holds}
-use Rattle.place.proofs.Laws.{number-below}
+use Rattle.counters.specs.Counter.{numberOn}
+use Rattle.condition.proofs.Tests.{holds}
+use Rattle.counters.proofs.Laws.{number-below}
 use Rattle.bus.specs.Data.{readOf}
 use borrow.Author.Needs.{needs}
 use Rattle.bus.proofs.data.value_read.Statement.{statement}

@@ -6,8 +6,8 @@ use Rattle.bus.proofs.memory.addressed.Statement.{statement}
 use Rattle.bus.proofs.memory.addressed.Tie as tie
 use Prim.Native.Nat.{ℕ}
 use mathlib.Core.List.{List}
-use Rattle.place.specs.declared.LineMode.{LineMode}
-use Rattle.place.specs.declared.counter.Counter.{Counter}
+use Rattle.counters.specs.declared.LineMode.{LineMode}
+use Rattle.counters.specs.declared.counter.Counter.{Counter}
 
 byte-at : (lines : LineMode) (d m : List ℕ) {k j : Counter} {x : ℕ} → k ≡ j → x ≡ byteAt lines j d m → x ≡ byteAt lines k d m
 byte-at lines d m e p = p ∙ ap (λ k. byteAt lines k d m) (sym e)

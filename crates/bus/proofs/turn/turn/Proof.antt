@@ -4,7 +4,7 @@ use mathlib.Core.Bool.{true}
 use mathlib.Core.List.{List}
 use borrow.Author.Needs.{needs}
 use lib.Dec.{T}
-use Rattle.place.proofs.Tests.{holds, is-true}
+use Rattle.condition.proofs.Tests.{holds, is-true}
 use Rattle.controller.specs.declared.Controller.{Controller}
 use Rattle.controller.specs.declared.answer.Answer.{Answer}
 use Rattle.controller.specs.declared.registers.Registers.{Registers}

@@ -1,10 +1,10 @@
 use mathlib.Core.Path.{_≡_, _∙_, refl, sym}
-use Rattle.place.specs.declared.LineMode.the-variants.{One, Two}
+use Rattle.counters.specs.declared.LineMode.the-variants.{One, Two}
 use Rattle.controller.specs.Instructions.{rearranged, counterFor, shiftFor}
 use borrow.Author.Needs.{needs}
 use Rattle.controller.proofs.obey.rearranged.Statement.{statement}
 use Rattle.controller.proofs.obey.rearranged.Tie as tie
-use Rattle.place.specs.declared.LineMode.{LineMode}
+use Rattle.counters.specs.declared.LineMode.{LineMode}
 use Rattle.controller.specs.declared.registers.Registers.{Registers}
 use Rattle.controller.specs.Part.{placed}
 

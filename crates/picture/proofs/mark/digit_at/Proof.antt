@@ -4,9 +4,9 @@ use native.Mathlib.Omega.{arith}
 use lib.Dec.{T}
 use borrow.Author.Needs.{needs}
 use borrow.Author.Tests.{not-true, not-false}
-use Rattle.place.specs.Address.{display, hasDisplay}
-use Rattle.place.proofs.Laws.{cell-exists}
-use Rattle.place.proofs.Tests.{holds}
+use Rattle.counters.specs.Address.{display, hasDisplay}
+use Rattle.counters.proofs.Laws.{cell-exists}
+use Rattle.condition.proofs.Tests.{holds}
 use Rattle.picture.proofs.Marks.{most-small, most-two, digit-one, digit-two, marked-cell, marked-none, marked-elsewhere}
 use Rattle.picture.proofs.mark.digit_at.Statement.{statement}
 use Rattle.picture.proofs.mark.digit_at.Tie as tie

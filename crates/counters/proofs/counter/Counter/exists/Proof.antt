@@ -1,0 +1,35 @@
+use Rattle.counters.specs.Counter.{hasCounter}
+use borrow.Author.Needs.{needs}
+use Rattle.counters.proofs.counter.Counter.exists.Statement.{statement}
+use Rattle.counters.proofs.counter.Counter.exists.Tie as tie
+
+enum-known-self : tie.Need-enum-known-self
+enum-known-self c = search needs
+
+exists-requires : tie.Need-exists-requires
+exists-requires c κs = search needs
+
+enum-known-self-2 : tie.Need-enum-known-self-2
+enum-known-self-2 c = search needs
+
+exists-requires-2 : tie.Need-exists-requires-2
+exists-requires-2 c κs = search needs
+
+returns : tie.Need-returns
+unfolding hasCounter
+returns c = cc
+
+returns-2 : tie.Need-returns-2
+unfolding hasCounter
+returns-2 c = cc
+
+pub exists-spec : {M : Type 1} → statement M
+exists-spec =
+    tie.close
+    (tie.spec
+    enum-known-self
+    exists-requires
+    enum-known-self-2
+    exists-requires-2
+    returns
+    returns-2)
