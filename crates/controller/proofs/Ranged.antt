@@ -7,13 +7,14 @@ use Rattle.counters.specs.Counter.{hasCounter}
 use Rattle.counters.specs.Shift.{hasShift}
 use Rattle.condition.proofs.Tests.{holds, is-true, and-left, and-right, and-both}
 use Rattle.controller.specs.declared.registers.Registers.{Registers}
-use Rattle.controller.specs.Part.{inRange, halfFits}
+use Rattle.halves.specs.Halves.{halfFits}
+use Rattle.controller.specs.Part.{longest, inRange}
 
 pub record InRange (r : Registers) : Type 0 where
   pub counter : T (hasCounter (r .mode .lines) (r .counter))
   pub shift : T (hasShift (r .mode .lines) (r .shift))
   pub half : T (halfFits (r .bus) (r .half))
-  pub busy : r .busy ≤ 3750
+  pub busy : r .busy ≤ longest
 
 module _ (r : Registers) where
   abbrev counter-test : Bool
@@ -26,7 +27,7 @@ module _ (r : Registers) where
   half-test = halfFits (r .bus) (r .half)
 
   abbrev busy-test : Bool
-  busy-test = leb (r .busy) 3750
+  busy-test = leb (r .busy) longest
 
   pub facts : T (inRange r) → InRange r
   unfolding inRange
@@ -37,7 +38,7 @@ module _ (r : Registers) where
         counter = and-left counter-test (shift-test && (half-test && busy-test)) t;
         shift = and-left shift-test (half-test && busy-test) s;
         half = and-left half-test busy-test h;
-        busy = leb→le (r .busy) 3750 (and-right half-test busy-test h);
+        busy = leb→le (r .busy) longest (and-right half-test busy-test h);
       }
 
   pub test : InRange r → T (inRange r)
@@ -45,7 +46,7 @@ module _ (r : Registers) where
   test f =
       and-both counter-test (shift-test && (half-test && busy-test)) (f .counter)
       (and-both shift-test (half-test && busy-test) (f .shift)
-      (and-both half-test busy-test (f .half) (le→leb (r .busy) 3750 (f .busy))))
+      (and-both half-test busy-test (f .half) (le→leb (r .busy) longest (f .busy))))
 
 pub counter-exists : (r : Registers) → inRange r ≡ true → hasCounter (r .mode .lines) (r .counter) ≡ true
 counter-exists r t = is-true _ (facts r (holds (inRange r) t) .counter)
