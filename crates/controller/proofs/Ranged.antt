@@ -1,5 +1,5 @@
 -- The test `inRange`, taken apart and put together.
-use Prim.Native.Nat.{_≤_}
+use Prim.Native.Nat.{ℕ, _≤_}
 use mathlib.Core.Path.{_≡_}
 use mathlib.Core.Bool.{Bool, true, _&&_}
 use lib.Dec.{T, leb, leb→le, le→leb}
@@ -7,8 +7,10 @@ use Rattle.counters.specs.Counter.{hasCounter}
 use Rattle.counters.specs.Shift.{hasShift}
 use Rattle.condition.proofs.Tests.{holds, is-true, and-left, and-right, and-both}
 use Rattle.controller.specs.declared.registers.Registers.{Registers}
-use Rattle.halves.specs.Halves.{halfFits}
-use Rattle.controller.specs.Part.{longest, inRange}
+use Rattle.halves.specs.declared.Half.{Half}
+use Rattle.halves.specs.Halves.{halfFits, upperOf}
+use Rattle.halves.proofs.Waiting.{upper-fits}
+use Rattle.controller.specs.Part.{awaiting, longest, inRange}
 
 pub record InRange (r : Registers) : Type 0 where
   pub counter : T (hasCounter (r .mode .lines) (r .counter))
@@ -50,3 +52,17 @@ module _ (r : Registers) where
 
 pub counter-exists : (r : Registers) → inRange r ≡ true → hasCounter (r .mode .lines) (r .counter) ≡ true
 counter-exists r t = is-true _ (facts r (holds (inRange r) t) .counter)
+
+-- the half that waits is below 16
+pub upper-small : (r : Registers) → inRange r ≡ true → upperOf (r .half) ≤ 15
+upper-small r t = upper-fits (r .bus) (r .half) (facts r (holds (inRange r) t) .half)
+
+-- with no half waiting, and a busy time of the table
+pub unhalved : (r : Registers) (t : ℕ) → InRange r → t ≤ longest → InRange (awaiting r Half.Nothing t)
+unfolding halfFits
+unhalved r t f h = record { counter = f .counter; shift = f .shift; half = tt; busy = h }
+
+pub unhalved-in-range : (r : Registers) → inRange r ≡ true → inRange (awaiting r Half.Nothing (r .busy)) ≡ true
+unhalved-in-range r t =
+    let f : InRange r = facts r (holds (inRange r) t) in
+    is-true _ (test (awaiting r Half.Nothing (r .busy)) (unhalved r (r .busy) f (f .busy)))

@@ -1,9 +1,9 @@
 -- What the nine rows have in common: no half is left, and only Clear changes a memory.
 use Prim.Native.Nat.{ℕ}
-use mathlib.Core.Path.{_≡_, refl}
-use mathlib.Core.Bool.{true, false, not, _||_}
-use lib.Dec.{T, eqb, lit≤}
-use Rattle.condition.proofs.Tests.{split, neqb→ne}
+use mathlib.Core.Path.{_≡_, _∙_, ap, refl, subst⁻¹}
+use mathlib.Core.Bool.{Bool, true, false, cond, not, _||_}
+use lib.Dec.{T, eqb, eqb→eq, lit≤}
+use Rattle.condition.proofs.Tests.{split, holds, neqb→ne}
 use Rattle.halves.specs.declared.Half.{Half}
 use Rattle.halves.specs.declared.LineCount.{LineCount}
 use Rattle.controller.specs.declared.registers.Mode.{Mode}
@@ -78,9 +78,17 @@ unfolding obey KeepsMemories
 only-clear-changes b r t =
     split (λ (s : Result). s .change ≡ Change.Nothing) (rowOf (decode b) r .lacks) (λ u. refl) (λ u. row-keeps-memories b r t)
 
-pub clear-clears : (r : Registers) → obey (decode 0x01) r .change ≡ Change.Clear
+clear-clears : (r : Registers) → obey (decode 0x01) r .change ≡ Change.Clear
 unfolding obey decode
 clear-clears r = refl
+
+-- the same as one choice
+pub change-by-byte : (b : ℕ) (r : Registers) → obey (decode b) r .change ≡ cond (eqb b 0x01) Change.Clear Change.Nothing
+change-by-byte b r = by-test (eqb b 0x01) refl
+  where
+    by-test : (t : Bool) → eqb b 0x01 ≡ t → obey (decode b) r .change ≡ cond t Change.Clear Change.Nothing
+    by-test true e = ap (λ (n : ℕ). obey (decode n) r .change) (eqb→eq b 0x01 (holds (eqb b 0x01) e)) ∙ clear-clears r
+    by-test false e = only-clear-changes b r (subst⁻¹ (λ (t : Bool). T (not t)) e tt)
 
 -- ---- a function set
 module _ (b : LineCount) (m : Mode) (r : Registers) where

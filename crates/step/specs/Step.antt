@@ -8,11 +8,13 @@ use Rattle.halves.specs.declared.Half.{Half}
 use Rattle.halves.specs.declared.LineCount.{LineCount}
 use Rattle.halves.specs.declared.LineCount.the-variants.{Eight, Four}
 use Rattle.halves.specs.Halves.{upper, heldBy, answered}
+use Rattle.controller.specs.declared.Controller.{Controller}
 use Rattle.controller.specs.declared.registers.Registers.{Registers}
 use Rattle.controller.specs.Answers.{saying}
 use Rattle.controller.specs.Memory.{Change}
 use Rattle.controller.specs.Part.{awaiting}
 use Rattle.controller.specs.Result.{Result, forgotten, leaving}
+use Rattle.controller.specs.Told.{Told, addressed, carried}
 use Rattle.step.specs.Data.{readOf, act}
 
 -- the first half waits and costs no ticks; a read answers the upper half of its value, in the upper four bits with zeros below
@@ -38,3 +40,7 @@ refusedBusy r k = not (eqb (r .busy) 0) && not (isStatus k)
 -- a transfer of registers in range, whose counter addresses the byte b
 unfoldable pub resultFor : Registers → Kind → (n b : ℕ) → Result
 resultFor r k n b = cond (refusedBusy r k) (leaving 1 r) (onBus (r .bus) k r n (readOf k r b))
+
+-- the same given to a controller in range
+abbrev pub stepped : Controller → Kind → (n : ℕ) → Told
+stepped c k n = carried c (resultFor (c .registers) k n (addressed c))

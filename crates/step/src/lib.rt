@@ -1,11 +1,12 @@
 // One transfer with the memories lent: halves, then the whole byte, each change made where it is decided.
+ghost use Prim.Native.Nat.{_*_};
 ghost use mathlib.Core.Path.{_≡_};
 ghost use mathlib.Core.Bool.{true, false};
 ghost use Rattle.controller.specs.Part.{with, inRange};
-ghost use Rattle.controller.specs.Told.{toldWith, addressed as addressedIn, carried};
-ghost use Rattle.halves.specs.Halves.{upper, answered as answeredOn};
-ghost use Rattle.step.specs.Data.{readOf, act as actOf};
-ghost use Rattle.step.specs.Step.{refusedBusy, resultFor};
+ghost use Rattle.controller.specs.Told.{toldWith};
+ghost use Rattle.halves.specs.Halves.{upper};
+ghost use Rattle.step.specs.Acted.{readFrom, acted};
+ghost use Rattle.step.specs.Step.{refusedBusy, stepped};
 
 mod data;
 mod memory;
@@ -28,7 +29,7 @@ fn act(
     byte: u8,
 ) -> Effect
     requires { ⌜ (inRange registers ≡ true) × (registers .half ≡ Half.Nothing) ⌝ }
-    ensures { λ r. ⌜ toldWith (now (display .exit)) (now (character .exit)) r ≡ carried (with (now (display .entry)) (now (character .entry)) registers) (actOf kind registers byte (answeredOn (registers .bus) (readOf kind registers (addressedIn (with (now (display .entry)) (now (character .entry)) registers))))) ⌝ }
+    ensures { λ r. ⌜ toldWith (now (display .exit)) (now (character .exit)) r ≡ acted (with (now (display .entry)) (now (character .entry)) registers) kind byte ⌝ }
 {
     let bus = registers.bus;
     let mut after = registers;
@@ -67,7 +68,7 @@ fn upper_read(
     kind: Kind,
 ) -> u8
     requires { ⌜ inRange registers ≡ true ⌝ }
-    ensures { λ r. ⌜ r ≡ upper (readOf kind registers (addressedIn (with (now (display .entry)) (now (character .entry)) registers))) * 16 ⌝ }
+    ensures { λ r. ⌜ r ≡ upper (readFrom (with (now (display .entry)) (now (character .entry)) registers) kind) * 16 ⌝ }
 {
     match kind {
         Kind::InstructionWrite => 0,
@@ -93,7 +94,7 @@ pub fn step(
     value: u8,
 ) -> Effect
     requires { ⌜ (inRange registers ≡ true) × (refusedBusy registers kind ≡ false) ⌝ }
-    ensures { λ r. ⌜ toldWith (now (display .exit)) (now (character .exit)) r ≡ carried (with (now (display .entry)) (now (character .entry)) registers) (resultFor registers kind value (addressedIn (with (now (display .entry)) (now (character .entry)) registers))) ⌝ }
+    ensures { λ r. ⌜ toldWith (now (display .exit)) (now (character .exit)) r ≡ stepped (with (now (display .entry)) (now (character .entry)) registers) kind value ⌝ }
 {
     let bus = registers.bus;
     let half = registers.half;

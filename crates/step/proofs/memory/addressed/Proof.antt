@@ -1,16 +1,8 @@
-use mathlib.Core.Path.{_≡_, _∙_, ap, refl, sym}
-use Rattle.bus.specs.Memory.{byteAt}
-use Rattle.bus.proofs.Stored.{cell-below, character-below}
+-- By the memory that the counter belongs to; the cell or the address is there.
+use Rattle.step.proofs.Stored.{cell-below, character-below, cell-read, character-read}
 use borrow.Author.Needs.{needs}
-use Rattle.bus.proofs.memory.addressed.Statement.{statement}
-use Rattle.bus.proofs.memory.addressed.Tie as tie
-use Prim.Native.Nat.{ℕ}
-use mathlib.Core.List.{List}
-use Rattle.counters.specs.declared.LineMode.{LineMode}
-use Rattle.counters.specs.declared.counter.Counter.{Counter}
-
-byte-at : (lines : LineMode) (d m : List ℕ) {k j : Counter} {x : ℕ} → k ≡ j → x ≡ byteAt lines j d m → x ≡ byteAt lines k d m
-byte-at lines d m e p = p ∙ ap (λ k. byteAt lines k d m) (sym e)
+use Rattle.step.proofs.memory.addressed.Statement.{statement}
+use Rattle.step.proofs.memory.addressed.Tie as tie
 
 enum-known-counter : tie.Need-enum-known-counter
 enum-known-counter c = search needs
@@ -22,7 +14,9 @@ cast-i : tie.Need-cast-i
 cast-i c = search needs
 
 element-copy-out-result : tie.Need-element-copy-out-result
-element-copy-out-result c = cell-below _ (c .before .before .before .before .before .before .pre) (c .before .before .before .counter .given .1) (c .before .cell .ensures)
+element-copy-out-result c =
+    let met = c .before .before .before in
+    cell-below _ (met .before .before .before .pre) (met .counter .given .1) (c .before .cell .ensures)
 
 enum-known-counter-2 : tie.Need-enum-known-counter-2
 enum-known-counter-2 c = search needs
@@ -31,15 +25,15 @@ cast-i-2 : tie.Need-cast-i-2
 cast-i-2 c = search needs
 
 element-copy-out-result-2 : tie.Need-element-copy-out-result-2
-element-copy-out-result-2 c = character-below _ (c .before .before .before .before .before .pre) (c .before .before .counter2 .given .1)
+element-copy-out-result-2 c =
+    let met = c .before .before in
+    character-below _ (met .before .before .before .pre) (met .counter2 .given .1)
 
 returns : tie.Need-returns
-unfolding byteAt
-returns c = byte-at _ _ _ (c .before .before .before .before .counter .given .1) (rw (c .before .before .cell .ensures))
+returns c = cell-read _ _ _ (c .before .before .before .before .counter .given .1) (c .before .before .cell .ensures)
 
 returns-2 : tie.Need-returns-2
-unfolding byteAt
-returns-2 c = byte-at _ _ _ (c .before .before .before .counter2 .given .1) refl
+returns-2 c = character-read _ _ _ (c .before .before .before .counter2 .given .1)
 
 pub addressed-spec : {M : Type 1} → statement M
 addressed-spec =

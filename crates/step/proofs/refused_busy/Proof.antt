@@ -1,7 +1,8 @@
+-- The test of the rule.
+use Rattle.step.specs.Step.{refusedBusy}
 use borrow.Author.Needs.{needs}
-use Rattle.bus.specs.Transfer.{refusedBusy}
-use Rattle.bus.proofs.step.refused_busy.Statement.{statement}
-use Rattle.bus.proofs.step.refused_busy.Tie as tie
+use Rattle.step.proofs.refused_busy.Statement.{statement}
+use Rattle.step.proofs.refused_busy.Tie as tie
 
 is-status-requires : tie.Need-is-status-requires
 is-status-requires c κs = search needs
