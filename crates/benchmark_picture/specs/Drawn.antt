@@ -12,7 +12,7 @@ abbrev pub phaseOf : Bool → Phase
 phaseOf true = Phase.Dark
 phaseOf false = Phase.Plain
 
--- what `timed_picture` promises: the answer and the buffer of `picture`
+-- what `benchmark_picture` promises: the answer and the buffer of `picture`
 pub record Drawn (bytes : List ℕ) (digits : ℕ) (rom : List ℕ) (dark : Bool) (out : List ℕ) (number : ℕ) (left : List ℕ) : Type 0 where
   pub answer : number ≡ answerFor (leftBy bytes) digits (length rom) (length out)
   pub buffer : left ≡ bufferFor (leftBy bytes) digits rom (phaseOf dark) out

@@ -9,7 +9,7 @@ use Rattle.bus.specs.Events.{toldBy, saidBy}
 use Rattle.record.specs.declared.events.Event.{Event}
 use Rattle.record.specs.Record.{runIn}
 use Rattle.run.specs.Run.{eventOn}
-use Rattle.timed_events.specs.Sum.{foldedOf, sumOver, sumFrom}
+use Rattle.benchmark_events.specs.Sum.{foldedOf, sumOver, sumFrom}
 
 module _ (bytes : List ℕ) (sum place : ℕ) (c : Controller) where
   -- one event given is the first of the run

@@ -1,9 +1,9 @@
--- Any two outcomes that the promise of `timed_picture` allows are equal.
+-- Any two outcomes that the promise of `benchmark_picture` allows are equal.
 use Prim.Native.Nat.{ℕ}
 use mathlib.Core.Path.{_≡_}
 use mathlib.Core.Bool.{Bool}
 use mathlib.Core.List.{List}
-use Rattle.timed_picture.specs.Drawn.{Drawn}
+use Rattle.benchmark_picture.specs.Drawn.{Drawn}
 
 abbrev pub PictureSettled : Type 0
 PictureSettled =

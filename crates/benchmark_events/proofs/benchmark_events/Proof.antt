@@ -1,4 +1,4 @@
--- `timed_events` meets its contract. The invariant: the sum so far, and over the events from a place on, is the whole one.
+-- `benchmark_events` meets its contract. The invariant: the sum so far, and over the events from a place on, is the whole one.
 use Prim.Native.Nat.{_-_}
 use mathlib.Core.Path.{_≡_, sym, ap, _∙_}
 use mathlib.Core.Bool.{true}
@@ -13,10 +13,10 @@ use Rattle.bus.specs.Transfer.{with}
 use Rattle.bus.specs.Events.{run}
 use Rattle.bus.proofs.Range.{reached-in-range}
 use Rattle.record.proofs.InTurn.{found-fits, found-first, none-left, none-behind}
-use Rattle.timed_events.specs.Sum.{sumFrom}
-use Rattle.timed_events.proofs.Sums.{sum-turn, sum-end}
-use Rattle.timed_events.proofs.timed_events.Statement.{statement}
-use Rattle.timed_events.proofs.timed_events.Tie as tie
+use Rattle.benchmark_events.specs.Sum.{sumFrom}
+use Rattle.benchmark_events.proofs.Sums.{sum-turn, sum-end}
+use Rattle.benchmark_events.proofs.benchmark_events.Statement.{statement}
+use Rattle.benchmark_events.proofs.benchmark_events.Tie as tie
 
 abbrev Inv-loop : tie.InvT-loop
 Inv-loop bytes display₀ character₀ registers₀ sum₀ place₀ display character registers sum place =
@@ -80,8 +80,8 @@ returns c =
 returns-2 : tie.Need-returns-2 Inv-loop μ-loop
 returns-2 c = sym (c .before .loop .inv .1 ∙ sum-end _ _ _ _ (none-behind _ (c .before .loop .place) (omega arith)))
 
-pub timed-events-spec : {M : Type 1} → statement M
-timed-events-spec =
+pub benchmark-events-spec : {M : Type 1} → statement M
+benchmark-events-spec =
     tie.close
     (tie.spec
     Inv-loop

@@ -1,7 +1,7 @@
 // What the benchmark calls from C: a record's events, given in turn to a part just switched on.
 ghost use mathlib.Core.Path.{_≡_};
 ghost use Rattle.controller.specs.Part.{switchedOn};
-ghost use Rattle.timed_events.specs.Sum.{foldedOf, sumFrom};
+ghost use Rattle.benchmark_events.specs.Sum.{foldedOf, sumFrom};
 use bus::turn::turn;
 use controller::Controller;
 use record::Meaning;
@@ -16,7 +16,7 @@ fn folded(sum: u32, number: u8, value: u8) -> u32
 
 // The checksum of all answers to a record's events, from a part just switched on.
 #[no_mangle]
-pub extern "C" fn timed_events(bytes: &[u8]) -> u32
+pub extern "C" fn benchmark_events(bytes: &[u8]) -> u32
     ensures { λ r. ⌜ r ≡ sumFrom 0 3 (now (bytes .entry)) switchedOn ⌝ }
 {
     let part = Controller::switched_on();
