@@ -1,44 +1,80 @@
 -- Busy time: after each answer what the table says, lowered by waits, and waited out by 3,750 ticks.
-use Prim.Native.Nat.{ℕ, _-_}
-use mathlib.Core.Path.{_≡_, refl, sym, ap, _∙_, subst}
-use mathlib.Core.Bool.{Bool, cond, _&&_, not}
+use Prim.Native.Nat.{ℕ, _+_, _-_, _*_, _≤_, _<_, _%_}
+use mathlib.Core.Path.{_≡_, _∙_, ap, refl, subst, subst⁻¹, sym}
+use mathlib.Core.Logic.{_⊎_, _≢_, _↔_, ⊎-elim, inl, inr}
+use mathlib.Core.Bool.{Bool, true, false, cond, not, _&&_, _||_, Bool·beq}
 use mathlib.Core.List.{List, [], _∷_}
 use native.Mathlib.Omega.{arith}
 use borrow.Author.Tests.{eq-eqb}
-use lib.Dec.{T, eqb, T-not}
-use Rattle.condition.proofs.Tests.{split, is-true, not-not, and-left, and-right}
+use lib.Dec.{T, ltb, leb, eqb, leb→le, le→leb, eqb→eq, eqb-refl, T-not, lit≤, ltb→lt, lt→ltb}
+use lib.ListN.{getD, set, replicate}
+use lib.Seq.{getD-set-other}
+use Rattle.condition.specs.First.{ExactlyFrom}
+use Rattle.condition.proofs.First.{first-given-exactly}
+use Rattle.condition.proofs.Tests.{is-true, holds, not-not, and-left, and-right, and-both, split, neqb→ne, met}
+use Rattle.counters.specs.declared.LineMode.{LineMode}
+use Rattle.counters.specs.declared.LineMode.the-variants.{One, Two}
+use Rattle.counters.specs.declared.counter.Counter.{Counter}
+use Rattle.counters.specs.declared.counter.Counter.the-variants.{Display, Character}
+use Rattle.counters.specs.declared.shift.Shift.{Shift}
+use Rattle.counters.specs.Address.{display, hasDisplay, hasCharacter, cellOf}
+use Rattle.counters.specs.Counter.{hasCounter, stepOf}
+use Rattle.counters.specs.Shift.{shift, hasShift}
+use Rattle.counters.proofs.Laws.{home-exists, no-shift-exists, step-exists, move-exists}
+use Rattle.event.specs.declared.Event.{Event}
+use Rattle.event.specs.declared.Event.the-variants.{Transfer, Wait}
+use Rattle.event.specs.declared.Kind.{Kind}
+use Rattle.event.specs.declared.Kind.the-variants.{InstructionWrite, DataWrite, StatusRead, DataRead}
+use Rattle.event.specs.Kind.{isRead, isStatus, alike}
+use Rattle.halves.specs.declared.Half.{Half}
+use Rattle.halves.specs.declared.LineCount.{LineCount}
+use Rattle.halves.specs.declared.LineCount.the-variants.{Eight, Four}
+use Rattle.halves.specs.Halves.{upper, lower, halfFits, heldBy, upperOf, isFirst, disagrees, completed, answered}
+use Rattle.halves.proofs.Waiting.{first-fits}
 use Rattle.controller.specs.declared.Controller.{Controller}
-use Rattle.controller.specs.Part.{inRange, waited}
-use Rattle.controller.specs.Instructions.{Result, decode, lacking, obey}
-use Rattle.controller.proofs.Ranged.{InRange, facts}
-use Rattle.bus.specs.declared.kind.Kind.{Kind}
-use Rattle.bus.specs.Data.{act, writeData, readData, readStatus}
-use Rattle.bus.specs.Halves.{firstHalf}
-use Rattle.bus.specs.Transfer.{Told, isStatus, refusedBusy, addressed, notInRange, waitedTold, waitOf}
-use Rattle.bus.specs.declared.event.Event.the-variants.{Wait}
-use Rattle.bus.specs.Events.{toldBy, waits, sum}
-use Rattle.bus.specs.Refusals.{completed, conditions}
+use Rattle.controller.specs.declared.answer.Answer.{Answer}
+use Rattle.controller.specs.declared.answer.Answer.the-variants.{Done, FirstHalf, Busy, HalvesDisagree, NoSuchAddress, NotInRange}
+use Rattle.controller.specs.declared.effect.Effect.{Effect}
+use Rattle.controller.specs.declared.registers.Registers.{Registers}
+use Rattle.controller.specs.Answers.{Said, saying, refused, saidOf}
+use Rattle.controller.specs.Memory.{Change, byteAt, storeAt, displayAfter, characterAfter}
+use Rattle.controller.specs.Part.{placed, awaiting, counterStepped, with, waited, longest, inRange, freshRegisters, freshWith, switchedOn}
+use Rattle.controller.specs.Result.{Result, done, forgotten, leaving}
+use Rattle.controller.specs.Told.{Told, toldWith, addressed, carried, unchanged}
+use Rattle.controller.proofs.Ranged.{InRange, facts, test, unhalved}
+use Rattle.instructions.specs.declared.instruction.Instruction.{Instruction}
+use Rattle.instructions.specs.declared.instruction.Instruction.the-variants.{Nothing, Clear, Home, EntryMode, OnOff, Move, FunctionSet, SetCharacter, SetDisplay}
+use Rattle.instructions.specs.Instructions.{decode, moved, unlessChanged, rearranged, rowOf, obey}
+use Rattle.instructions.proofs.Decoded.{of-decoded}
+use Rattle.instructions.proofs.Rows.{ticks-fit, change-by-byte}
+use Rattle.step.specs.Data.{shiftAfter, writeData, readData, readStatus, readOf, statusOf, act}
+use Rattle.step.specs.Step.{firstHalf, secondHalf, onFour, onBus, refusedBusy, resultFor, stepped}
+use Rattle.step.proofs.Joined.{joined, bus-joined}
+use Rattle.bus.specs.declared.Outcome.{Outcome}
+use Rattle.bus.specs.Transfer.{told, transferOf, waitedTold, waitOf}
+use Rattle.bus.specs.Events.{toldBy, afterEvents, reached, waits, sum}
+use Rattle.bus.specs.Refusals.{byteOf, lacksAddress, transferRules, waitRules}
 use Rattle.bus.specs.Theorems.{busyFor, BusyByTable, WaitLowers, WaitedEnough}
 use Rattle.bus.proofs.Outcomes.{of-step, of-transfer, of-wait}
-use Rattle.bus.proofs.Numbers.{given-exactly}
 use Rattle.bus.proofs.Range.{range-kept}
+use Rattle.bus.proofs.Numbers.{transfer-given-exactly}
 
 module _ (c : Controller) (k : Kind) (n : ℕ) where
   ByTable : Told → Type 0
-  ByTable t = t .controller .registers .busy ≡ cond (eqb (t .number) 0) (busyFor k c n) (c .registers .busy)
+  ByTable t = t .controller .registers .busy ≡ cond (eqb (t .said .number) 0) (busyFor k c n) (c .registers .busy)
 
   StepByTable : Result → Type 0
-  StepByTable s = s .registers .busy ≡ cond (eqb (s .number) 0) (busyFor k c n) (c .registers .busy)
+  StepByTable s = s .registers .busy ≡ cond (eqb (s .said .number) 0) (busyFor k c n) (c .registers .busy)
 
-act-by-table : (c : Controller) (k : Kind) (n v : ℕ) → StepByTable c k n (act k (c .registers) (completed (c .registers .bus) (c .registers .half) n) v)
+act-by-table : (c : Controller) (k : Kind) (n v : ℕ) → StepByTable c k n (act k (c .registers) (byteOf (c .registers) n) v)
 unfolding StepByTable busyFor act obey writeData readStatus readData
-act-by-table c Kind.InstructionWrite n v =
-    split (StepByTable c Kind.InstructionWrite n) (lacking (decode (completed (c .registers .bus) (c .registers .half) n)) (c .registers .mode .lines))
+act-by-table c InstructionWrite n v =
+    split (StepByTable c InstructionWrite n) (rowOf (decode (byteOf (c .registers) n)) (c .registers) .lacks)
     (λ t. refl)
     (λ t. refl)
-act-by-table c Kind.DataWrite n v = refl
-act-by-table c Kind.StatusRead n v = refl
-act-by-table c Kind.DataRead n v = refl
+act-by-table c DataWrite n v = refl
+act-by-table c StatusRead n v = refl
+act-by-table c DataRead n v = refl
 
 pub busy-by-table : BusyByTable
 unfolding ByTable StepByTable firstHalf
@@ -50,7 +86,7 @@ busy-by-table c k n =
 -- ---- waits
 pub waited-told : (c : Controller) (n : ℕ) → T (inRange (c .registers)) → waitOf c n ≡ waitedTold c n
 unfolding waitOf
-waited-told c n t = ap (λ (b : Bool). cond b (waitedTold c n) (notInRange c)) (is-true (inRange (c .registers)) t)
+waited-told c n t = ap (λ (b : Bool). cond b (waitedTold c n) (unchanged 16 c)) (is-true (inRange (c .registers)) t)
 
 pub wait-lowers : WaitLowers
 unfolding waited
@@ -84,11 +120,11 @@ unfolding refusedBusy
 idle c k n e = subst (λ (b : Bool). T (not (not b && not (isStatus k)))) (sym (eq-eqb _ _ e)) tt
 
 pub waited-enough : WaitedEnough
-unfolding conditions
+unfolding ExactlyFrom
 waited-enough c ns h k n e =
-    let on = given-exactly (waits ns c) k n .one .0 e in
-    let t = in-range-before ns c (not-not (inRange (waits ns c .registers)) (and-left (not (not (inRange (waits ns c .registers)))) (refusedBusy (waits ns c .registers) k) on)) in
+    let after : Controller = waits ns c in
+    let on = transfer-given-exactly after k n .1 .0 .0 e in
+    let t = in-range-before ns c (not-not (inRange (after .registers)) (and-left (not (not (inRange (after .registers)))) (refusedBusy (after .registers) k) on)) in
     let f : InRange (c .registers) = facts (c .registers) t in
-    let z : waits ns c .registers .busy ≡ 0 = waits-lower ns c t ∙ omega arith in
-    T-not (refusedBusy (waits ns c .registers) k) (idle (waits ns c) k n z)
-    (and-right (not (not (inRange (waits ns c .registers)))) (refusedBusy (waits ns c .registers) k) on)
+    let z : after .registers .busy ≡ 0 = waits-lower ns c t ∙ omega arith in
+    T-not (refusedBusy (after .registers) k) (idle after k n z) (and-right (not (not (inRange (after .registers)))) (refusedBusy (after .registers) k) on)

@@ -1,27 +1,58 @@
 -- A transfer changes at most the one addressed cell, unless it is Clear.
-use Prim.Native.Nat.{ℕ}
-use mathlib.Core.Path.{_≡_, refl, ap, subst, subst⁻¹}
-use mathlib.Core.Logic.{_⊎_, ⊎-elim}
-use mathlib.Core.Bool.{Bool, true, false, _&&_, not}
-use mathlib.Core.List.{List}
-use lib.ListN.{getD}
+use Prim.Native.Nat.{ℕ, _+_, _-_, _*_, _≤_, _<_, _%_}
+use mathlib.Core.Path.{_≡_, _∙_, ap, refl, subst, subst⁻¹, sym}
+use mathlib.Core.Logic.{_⊎_, _≢_, _↔_, ⊎-elim, inl, inr}
+use mathlib.Core.Bool.{Bool, true, false, cond, not, _&&_, _||_, Bool·beq}
+use mathlib.Core.List.{List, [], _∷_}
+use native.Mathlib.Omega.{arith}
+use lib.Dec.{T, ltb, leb, eqb, leb→le, le→leb, eqb→eq, eqb-refl, T-not, lit≤, ltb→lt, lt→ltb}
+use lib.ListN.{getD, set, replicate}
 use lib.Seq.{getD-set-other}
-use lib.Dec.{T, eqb, eqb→eq, T-not}
+use Rattle.condition.specs.First.{Rule, _when_, firstOf, Exactly}
+use Rattle.condition.proofs.First.{first-given-exactly}
+use Rattle.condition.proofs.Tests.{is-true, holds, not-not, and-left, and-right, and-both, split, neqb→ne, met}
 use Rattle.counters.specs.declared.LineMode.{LineMode}
+use Rattle.counters.specs.declared.LineMode.the-variants.{One, Two}
 use Rattle.counters.specs.declared.counter.Counter.{Counter}
 use Rattle.counters.specs.declared.counter.Counter.the-variants.{Display, Character}
-use Rattle.counters.specs.Address.{cellOf}
-use Rattle.condition.proofs.Tests.{split, holds, neqb→ne}
+use Rattle.counters.specs.declared.shift.Shift.{Shift}
+use Rattle.counters.specs.Address.{display, hasDisplay, hasCharacter, cellOf}
+use Rattle.counters.specs.Counter.{hasCounter, stepOf}
+use Rattle.counters.specs.Shift.{shift, hasShift}
+use Rattle.counters.proofs.Laws.{home-exists, no-shift-exists, step-exists, move-exists}
+use Rattle.event.specs.declared.Event.{Event}
+use Rattle.event.specs.declared.Event.the-variants.{Transfer, Wait}
+use Rattle.event.specs.declared.Kind.{Kind}
+use Rattle.event.specs.declared.Kind.the-variants.{InstructionWrite, DataWrite, StatusRead, DataRead}
+use Rattle.event.specs.Kind.{isRead, isStatus, alike}
+use Rattle.halves.specs.declared.Half.{Half}
+use Rattle.halves.specs.declared.LineCount.{LineCount}
+use Rattle.halves.specs.declared.LineCount.the-variants.{Eight, Four}
+use Rattle.halves.specs.Halves.{upper, lower, halfFits, heldBy, upperOf, isFirst, disagrees, completed, answered}
+use Rattle.halves.proofs.Waiting.{first-fits}
 use Rattle.controller.specs.declared.Controller.{Controller}
-use Rattle.controller.specs.declared.change.Change.{Change}
-use Rattle.controller.specs.Instructions.{Result, decode, effectOf, ticksOf, changeOf, lacking, obey, done}
-use Rattle.controller.proofs.Decoded.{only-clear-changes}
-use Rattle.bus.specs.declared.kind.Kind.{Kind}
-use Rattle.bus.specs.Memory.{storeAt, displayAfter, characterAfter}
-use Rattle.bus.specs.Data.{act, writeData, readData, readStatus}
-use Rattle.bus.specs.Halves.{firstHalf}
-use Rattle.bus.specs.Transfer.{Told, addressed, carried}
-use Rattle.bus.specs.Refusals.{completed}
+use Rattle.controller.specs.declared.answer.Answer.{Answer}
+use Rattle.controller.specs.declared.answer.Answer.the-variants.{Done, FirstHalf, Busy, HalvesDisagree, NoSuchAddress, NotInRange}
+use Rattle.controller.specs.declared.effect.Effect.{Effect}
+use Rattle.controller.specs.declared.registers.Registers.{Registers}
+use Rattle.controller.specs.Answers.{Said, saying, refused, saidOf}
+use Rattle.controller.specs.Memory.{Change, byteAt, storeAt, displayAfter, characterAfter}
+use Rattle.controller.specs.Part.{placed, awaiting, counterStepped, with, waited, longest, inRange, freshRegisters, freshWith, switchedOn}
+use Rattle.controller.specs.Result.{Result, done, forgotten, leaving}
+use Rattle.controller.specs.Told.{Told, toldWith, addressed, carried, unchanged}
+use Rattle.controller.proofs.Ranged.{InRange, facts, test, unhalved}
+use Rattle.instructions.specs.declared.instruction.Instruction.{Instruction}
+use Rattle.instructions.specs.declared.instruction.Instruction.the-variants.{Nothing, Clear, Home, EntryMode, OnOff, Move, FunctionSet, SetCharacter, SetDisplay}
+use Rattle.instructions.specs.Instructions.{decode, moved, unlessChanged, rearranged, rowOf, obey}
+use Rattle.instructions.proofs.Decoded.{of-decoded}
+use Rattle.instructions.proofs.Rows.{ticks-fit, change-by-byte}
+use Rattle.step.specs.Data.{shiftAfter, writeData, readData, readStatus, readOf, statusOf, act}
+use Rattle.step.specs.Step.{firstHalf, secondHalf, onFour, onBus, refusedBusy, resultFor, stepped}
+use Rattle.step.proofs.Joined.{joined, bus-joined}
+use Rattle.bus.specs.declared.Outcome.{Outcome}
+use Rattle.bus.specs.Transfer.{told, transferOf, waitedTold, waitOf}
+use Rattle.bus.specs.Events.{toldBy, afterEvents, reached, waits, sum}
+use Rattle.bus.specs.Refusals.{byteOf, lacksAddress, transferRules, waitRules}
 use Rattle.bus.specs.Theorems.{namesCell, namesCharacter, clears, Cells, OneCellAtMost}
 use Rattle.bus.proofs.Outcomes.{of-step, of-transfer}
 
@@ -42,22 +73,22 @@ module _ (c : Controller) (n : ℕ) where
   -- an answer other than 0 is no Clear
   not-cleared : (k : Kind) (m : ℕ) → T (not (eqb m 0)) → T (not (clears k c n m))
   unfolding clears
-  not-cleared Kind.InstructionWrite m t = none-of (eqb m 0) t
+  not-cleared InstructionWrite m t = none-of (eqb m 0) t
     where
-      none-of : (b : Bool) → T (not b) → T (not (b && eqb (completed (c .registers .bus) (c .registers .half) n) 0x01))
+      none-of : (b : Bool) → T (not b) → T (not (b && eqb (byteOf (c .registers) n) 0x01))
       none-of true u = absurd u
       none-of false u = tt
-  not-cleared Kind.DataWrite m t = tt
-  not-cleared Kind.StatusRead m t = tt
-  not-cleared Kind.DataRead m t = tt
+  not-cleared DataWrite m t = tt
+  not-cleared StatusRead m t = tt
+  not-cleared DataRead m t = tt
 
   -- both memories as they were
   same-memories : (k : Kind) (t : Told) → t .controller .display ≡ c .display → t .controller .character ≡ c .character
-      → T (not (clears k c n (t .number))) → Cells c k n t
+      → T (not (clears k c n (t .said .number))) → Cells c k n t
   same-memories k t d m u = record {
     other-cells = λ v i w. ap (λ (l : List ℕ). getD l i 0) d;
     other-characters = λ j w. ap (λ (l : List ℕ). getD l j 0) m;
-    cleared = λ v. absurd (T-not (clears k c n (t .number)) u v);
+    cleared = λ v. absurd (T-not (clears k c n (t .said .number)) u v);
     none = λ v. (d, m);
   }
 
@@ -65,46 +96,60 @@ module _ (c : Controller) (n : ℕ) where
   Carried k s = Cells c k n (carried c s)
 
   abbrev byte : ℕ
-  byte = completed (c .registers .bus) (c .registers .half) n
+  byte = byteOf (c .registers) n
 
-  -- an instruction that is not refused
-  module _ (m : Change) (e : changeOf (decode byte) ≡ m) where
-    display-as : displayAfter (changeOf (decode byte)) (c .display) ≡ displayAfter m (c .display)
+  -- an instruction: Clear, or one that changes no memory
+  module _ (m : Change) (e : obey (decode byte) (c .registers) .change ≡ m) where
+    display-as : displayAfter (obey (decode byte) (c .registers) .change) (c .display) ≡ displayAfter m (c .display)
     display-as = ap (λ (x : Change). displayAfter x (c .display)) e
 
-    character-as : characterAfter (changeOf (decode byte)) (c .character) ≡ characterAfter m (c .character)
+    character-as : characterAfter (obey (decode byte) (c .registers) .change) (c .character) ≡ characterAfter m (c .character)
     character-as = ap (λ (x : Change). characterAfter x (c .character)) e
 
-  obeyed : (b : Bool) → eqb byte 0x01 ≡ b
-      → Carried Kind.InstructionWrite (done 0 (ticksOf (decode byte)) (effectOf (decode byte) (c .registers)) (changeOf (decode byte)))
-  unfolding Carried clears decode changeOf displayAfter characterAfter
-  obeyed true e =
-      let clear : changeOf (decode byte) ≡ Change.Clear =
-      subst⁻¹ (λ (b : ℕ). changeOf (decode b) ≡ Change.Clear) (eqb→eq byte 0x01 (holds (eqb byte 0x01) e)) refl in
-      record {
-        other-cells = λ v. absurd (subst (λ (b : Bool). T (not b)) e v);
-        other-characters = λ j v. ap (λ (l : List ℕ). getD l j 0) (character-as Change.Clear clear);
-        cleared = λ v. (display-as Change.Clear clear, character-as Change.Clear clear);
-        none = ⊎-elim (λ v. absurd v) (λ v. absurd (v refl));
-      }
+  change-as : (b : Bool) → eqb byte 0x01 ≡ b → obey (decode byte) (c .registers) .change ≡ cond b Change.Clear Change.Nothing
+  change-as b e = change-by-byte byte (c .registers) ∙ ap (λ (x : Bool). cond x Change.Clear Change.Nothing) e
+
+  -- Clear is never refused
+  clear-done : eqb byte 0x01 ≡ true → obey (decode byte) (c .registers) .said .number ≡ 0
+  unfolding obey decode
+  clear-done e = subst⁻¹ (λ (b : ℕ). obey (decode b) (c .registers) .said .number ≡ 0) (eqb→eq byte 0x01 (holds (eqb byte 0x01) e)) refl
+
+  is-clear : eqb byte 0x01 ≡ true → T (clears InstructionWrite c n (obey (decode byte) (c .registers) .said .number))
+  unfolding clears
+  is-clear e = rw (clear-done e, e) tt
+
+  no-clear : (m : ℕ) → eqb byte 0x01 ≡ false → T (not (clears InstructionWrite c n m))
+  unfolding clears
+  no-clear m e = rw e (both-false (eqb m 0))
+    where
+      both-false : (b : Bool) → T (not (b && false))
+      both-false true = tt
+      both-false false = tt
+
+  obeyed : (b : Bool) → eqb byte 0x01 ≡ b → Carried InstructionWrite (obey (decode byte) (c .registers))
+  unfolding Carried displayAfter characterAfter
+  obeyed true e = record {
+    other-cells = λ v. absurd (T-not (clears InstructionWrite c n (obey (decode byte) (c .registers) .said .number)) v (is-clear e));
+    other-characters = λ j v. ap (λ (l : List ℕ). getD l j 0) (character-as Change.Clear (change-as true e));
+    cleared = λ v. (display-as Change.Clear (change-as true e), character-as Change.Clear (change-as true e));
+    none = ⊎-elim (λ v. absurd v) (λ v. absurd (v (clear-done e)));
+  }
   obeyed false e =
-      let t : T (not (eqb byte 0x01)) = subst⁻¹ (λ (b : Bool). T (not b)) e tt in
-      same-memories Kind.InstructionWrite _ (display-as Change.Nothing (only-clear-changes byte t)) (character-as Change.Nothing (only-clear-changes byte t)) t
+      same-memories InstructionWrite (carried c (obey (decode byte) (c .registers))) (display-as Change.Nothing (change-as false e))
+      (character-as Change.Nothing (change-as false e))
+      (no-clear (obey (decode byte) (c .registers) .said .number) e)
 
   act-cells : (k : Kind) (v : ℕ) → Carried k (act k (c .registers) byte v)
-  unfolding Carried clears act obey writeData readStatus readData displayAfter characterAfter
-  act-cells Kind.InstructionWrite v =
-      split (Carried Kind.InstructionWrite) (lacking (decode byte) (c .registers .mode .lines))
-      (λ t. same-memories Kind.InstructionWrite _ refl refl tt)
-      (λ t. obeyed (eqb byte 0x01) refl)
-  act-cells Kind.DataWrite v = record {
+  unfolding Carried clears act writeData readStatus readData displayAfter characterAfter
+  act-cells InstructionWrite v = obeyed (eqb byte 0x01) refl
+  act-cells DataWrite v = record {
     other-cells = λ t. stored-display (c .registers .mode .lines) (c .registers .counter) byte (c .display);
     other-characters = stored-character (c .registers .mode .lines) (c .registers .counter) byte (c .character);
     cleared = λ t. absurd t;
     none = ⊎-elim (λ t. absurd t) (λ t. absurd (t refl));
   }
-  act-cells Kind.StatusRead v = same-memories Kind.StatusRead _ refl refl tt
-  act-cells Kind.DataRead v = same-memories Kind.DataRead _ refl refl tt
+  act-cells StatusRead v = same-memories StatusRead _ refl refl tt
+  act-cells DataRead v = same-memories DataRead _ refl refl tt
 
 pub one-cell-at-most : OneCellAtMost
 unfolding Carried firstHalf displayAfter characterAfter

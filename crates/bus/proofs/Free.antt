@@ -1,23 +1,58 @@
 -- An instruction write to a part that is free: what it comes to on eight lines, and on four by the half that waits.
-use Prim.Native.Nat.{ℕ, _+_, _*_}
-use mathlib.Core.Path.{_≡_, refl, sym, ap, _∙_}
-use mathlib.Core.Bool.{Bool, cond}
+use Prim.Native.Nat.{ℕ, _+_, _-_, _*_, _≤_, _<_, _%_}
+use mathlib.Core.Path.{_≡_, _∙_, ap, refl, subst, subst⁻¹, sym}
+use mathlib.Core.Logic.{_⊎_, _≢_, _↔_, ⊎-elim, inl, inr}
+use mathlib.Core.Bool.{Bool, true, false, cond, not, _&&_, _||_, Bool·beq}
 use mathlib.Core.List.{List, [], _∷_}
-use lib.Dec.{T}
-use Rattle.condition.proofs.Tests.{is-true}
+use native.Mathlib.Omega.{arith}
+use lib.Dec.{T, ltb, leb, eqb, leb→le, le→leb, eqb→eq, eqb-refl, T-not, lit≤, ltb→lt, lt→ltb}
+use lib.ListN.{getD, set, replicate}
+use lib.Seq.{getD-set-other}
+use Rattle.condition.specs.First.{Rule, _when_, firstOf, Exactly}
+use Rattle.condition.proofs.First.{first-given-exactly}
+use Rattle.condition.proofs.Tests.{is-true, holds, not-not, and-left, and-right, and-both, split, neqb→ne, met}
+use Rattle.counters.specs.declared.LineMode.{LineMode}
+use Rattle.counters.specs.declared.LineMode.the-variants.{One, Two}
+use Rattle.counters.specs.declared.counter.Counter.{Counter}
+use Rattle.counters.specs.declared.counter.Counter.the-variants.{Display, Character}
+use Rattle.counters.specs.declared.shift.Shift.{Shift}
+use Rattle.counters.specs.Address.{display, hasDisplay, hasCharacter, cellOf}
+use Rattle.counters.specs.Counter.{hasCounter, stepOf}
+use Rattle.counters.specs.Shift.{shift, hasShift}
+use Rattle.counters.proofs.Laws.{home-exists, no-shift-exists, step-exists, move-exists}
+use Rattle.event.specs.declared.Event.{Event}
+use Rattle.event.specs.declared.Event.the-variants.{Transfer, Wait}
+use Rattle.event.specs.declared.Kind.{Kind}
+use Rattle.event.specs.declared.Kind.the-variants.{InstructionWrite, DataWrite, StatusRead, DataRead}
+use Rattle.event.specs.Kind.{isRead, isStatus, alike}
+use Rattle.halves.specs.declared.Half.{Half}
+use Rattle.halves.specs.declared.LineCount.{LineCount}
+use Rattle.halves.specs.declared.LineCount.the-variants.{Eight, Four}
+use Rattle.halves.specs.Halves.{upper, lower, halfFits, heldBy, upperOf, isFirst, disagrees, completed, answered}
+use Rattle.halves.proofs.Waiting.{first-fits}
 use Rattle.controller.specs.declared.Controller.{Controller}
-use Rattle.controller.specs.declared.half.Half.{Half}
-use Rattle.controller.specs.declared.half.LineCount.{LineCount}
-use Rattle.controller.specs.declared.half.LineCount.the-variants.{Eight, Four}
+use Rattle.controller.specs.declared.answer.Answer.{Answer}
+use Rattle.controller.specs.declared.answer.Answer.the-variants.{Done, FirstHalf, Busy, HalvesDisagree, NoSuchAddress, NotInRange}
+use Rattle.controller.specs.declared.effect.Effect.{Effect}
 use Rattle.controller.specs.declared.registers.Registers.{Registers}
-use Rattle.controller.specs.Part.{inRange, awaiting, waited}
-use Rattle.controller.specs.Instructions.{decode, obey, forgotten}
-use Rattle.bus.specs.declared.kind.Kind.{Kind}
-use Rattle.bus.specs.Data.{act, readOf}
-use Rattle.bus.specs.Halves.{upper, firstHalf, secondHalf, onFour, onBus}
-use Rattle.bus.specs.Transfer.{Told, refusedBusy, stepOf, addressed, carried, notInRange, transferOf, waitOf}
-use Rattle.bus.specs.declared.event.Event.the-variants.{Wait}
-use Rattle.bus.specs.Events.{toldBy, waits}
+use Rattle.controller.specs.Answers.{Said, saying, refused, saidOf}
+use Rattle.controller.specs.Memory.{Change, byteAt, storeAt, displayAfter, characterAfter}
+use Rattle.controller.specs.Part.{placed, awaiting, counterStepped, with, waited, longest, inRange, freshRegisters, freshWith, switchedOn}
+use Rattle.controller.specs.Result.{Result, done, forgotten, leaving}
+use Rattle.controller.specs.Told.{Told, toldWith, addressed, carried, unchanged}
+use Rattle.controller.proofs.Ranged.{InRange, facts, test, unhalved}
+use Rattle.instructions.specs.declared.instruction.Instruction.{Instruction}
+use Rattle.instructions.specs.declared.instruction.Instruction.the-variants.{Nothing, Clear, Home, EntryMode, OnOff, Move, FunctionSet, SetCharacter, SetDisplay}
+use Rattle.instructions.specs.Instructions.{decode, moved, unlessChanged, rearranged, rowOf, obey}
+use Rattle.instructions.proofs.Decoded.{of-decoded}
+use Rattle.instructions.proofs.Rows.{ticks-fit, change-by-byte}
+use Rattle.step.specs.Data.{shiftAfter, writeData, readData, readStatus, readOf, statusOf, act}
+use Rattle.step.specs.Step.{firstHalf, secondHalf, onFour, onBus, refusedBusy, resultFor, stepped}
+use Rattle.step.proofs.Joined.{joined, bus-joined}
+use Rattle.bus.specs.declared.Outcome.{Outcome}
+use Rattle.bus.specs.Transfer.{told, transferOf, waitedTold, waitOf}
+use Rattle.bus.specs.Events.{toldBy, afterEvents, reached, waits, sum}
+use Rattle.bus.specs.Refusals.{byteOf, lacksAddress, transferRules, waitRules}
 use Rattle.bus.proofs.Range.{range-kept}
 use Rattle.bus.proofs.Busy.{waited-told}
 
@@ -26,7 +61,7 @@ abbrev pub freed : Registers → Registers
 freed r = awaiting r (r .half) 0
 
 abbrev pub withBusy : Controller → ℕ → Controller
-withBusy c t = record { display = c .display; character = c .character; registers = awaiting (c .registers) (c .registers .half) t }
+withBusy c t = with (c .display) (c .character) (awaiting (c .registers) (c .registers .half) t)
 
 pub waits-only-busy : (ns : List ℕ) (c : Controller) → T (inRange (c .registers)) → waits ns c ≡ withBusy c (waits ns c .registers .busy)
 unfolding waits waited toldBy
@@ -42,50 +77,42 @@ waits-only-busy (n ∷ ns) c t =
         ∙ ap (λ (x : Told). withBusy c (x .controller .registers .busy)) (sym (waited-told c n t))
 
 -- ---- a transfer of a controller in range is a step of its registers
-pub transfer-steps : (c : Controller) (k : Kind) (n : ℕ) → T (inRange (c .registers)) → transferOf c k n ≡ carried c (stepOf (c .registers) k n (addressed c))
+pub transfer-steps : (c : Controller) (k : Kind) (n : ℕ) → T (inRange (c .registers)) → transferOf c k n ≡ stepped c k n
 unfolding transferOf
-transfer-steps c k n t =
-    ap (λ (b : Bool). cond b (carried c (stepOf (c .registers) k n (addressed c))) (notInRange c)) (is-true (inRange (c .registers)) t)
+transfer-steps c k n t = ap (λ (b : Bool). cond b (stepped c k n) (unchanged 16 c)) (is-true (inRange (c .registers)) t)
 
 -- ---- one instruction write
 module _ (r : Registers) (n b : ℕ) where
   -- the part is free, so nothing is refused with 1
-  on-the-bus : stepOf (freed r) Kind.InstructionWrite n b ≡ onBus (r .bus) Kind.InstructionWrite (freed r) n 0
-  unfolding stepOf refusedBusy readOf
+  on-the-bus : resultFor (freed r) InstructionWrite n b ≡ onBus (r .bus) InstructionWrite (freed r) n 0
+  unfolding resultFor refusedBusy readOf
   on-the-bus = refl
 
   -- on eight lines the byte acts
-  pub on-eight : r .bus ≡ Eight → stepOf (freed r) Kind.InstructionWrite n b ≡ obey (decode n) (freed r)
+  pub on-eight : r .bus ≡ Eight → resultFor (freed r) InstructionWrite n b ≡ obey (decode n) (freed r)
   unfolding onBus act
-  on-eight e = on-the-bus ∙ ap (λ (x : LineCount). onBus x Kind.InstructionWrite (freed r) n 0) e
+  on-eight e = on-the-bus ∙ ap (λ (x : LineCount). onBus x InstructionWrite (freed r) n 0) e
 
-  on-four-lines : (h : Half) → r .bus ≡ Four → r .half ≡ h → stepOf (freed r) Kind.InstructionWrite n b ≡ onFour h Kind.InstructionWrite (freed r) n 0
+  on-four : (h : Half) → r .bus ≡ Four → r .half ≡ h → resultFor (freed r) InstructionWrite n b ≡ onFour h InstructionWrite (freed r) n 0
   unfolding onBus
-  on-four-lines h e f =
+  on-four h e f =
       on-the-bus
-      ∙ ap (λ (x : LineCount). onBus x Kind.InstructionWrite (freed r) n 0) e
-      ∙ ap (λ (x : Half). onFour x Kind.InstructionWrite (freed r) n 0) f
+      ∙ ap (λ (x : LineCount). onBus x InstructionWrite (freed r) n 0) e
+      ∙ ap (λ (x : Half). onFour x InstructionWrite (freed r) n 0) f
 
   -- on four lines with no half, the first half waits
-  pub first-waits : r .bus ≡ Four → r .half ≡ Half.Nothing → stepOf (freed r) Kind.InstructionWrite n b ≡ firstHalf Kind.InstructionWrite (freed r) n 0
+  pub first-waits : r .bus ≡ Four → r .half ≡ Half.Nothing → resultFor (freed r) InstructionWrite n b ≡ firstHalf InstructionWrite (freed r) n 0
   unfolding onFour
-  first-waits e f = on-four-lines Half.Nothing e f
+  first-waits e f = on-four Half.Nothing e f
 
   -- the half of an instruction is completed
-  pub second-completes : (u : ℕ) → r .bus ≡ Four → r .half ≡ Half.InstructionWrite u
-      → stepOf (freed r) Kind.InstructionWrite n b ≡ obey (decode (u * 16 + upper n)) (freed r)
+  pub second-completes : (u : ℕ) → r .bus ≡ Four → r .half ≡ Half.Waiting InstructionWrite u
+      → resultFor (freed r) InstructionWrite n b ≡ obey (decode (u * 16 + upper n)) (freed r)
   unfolding onFour secondHalf act
-  second-completes u e f = on-four-lines (Half.InstructionWrite u) e f
+  second-completes u e f = on-four (Half.Waiting InstructionWrite u) e f
 
   -- a half of another kind is forgotten
-  pub data-disagrees : (u : ℕ) → r .bus ≡ Four → r .half ≡ Half.DataWrite u → stepOf (freed r) Kind.InstructionWrite n b ≡ forgotten 2 (freed r)
+  pub other-disagrees : (w : Kind) (u : ℕ) → alike w InstructionWrite ≡ false → r .bus ≡ Four → r .half ≡ Half.Waiting w u
+      → resultFor (freed r) InstructionWrite n b ≡ forgotten 2 (freed r)
   unfolding onFour secondHalf
-  data-disagrees u e f = on-four-lines (Half.DataWrite u) e f
-
-  pub status-disagrees : r .bus ≡ Four → r .half ≡ Half.StatusRead → stepOf (freed r) Kind.InstructionWrite n b ≡ forgotten 2 (freed r)
-  unfolding onFour secondHalf
-  status-disagrees e f = on-four-lines Half.StatusRead e f
-
-  pub read-disagrees : r .bus ≡ Four → r .half ≡ Half.DataRead → stepOf (freed r) Kind.InstructionWrite n b ≡ forgotten 2 (freed r)
-  unfolding onFour secondHalf
-  read-disagrees e f = on-four-lines Half.DataRead e f
+  other-disagrees w u a e f = on-four (Half.Waiting w u) e f ∙ rw a

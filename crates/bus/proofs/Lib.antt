@@ -1,10 +1,9 @@
 pub mod Outcomes
-pub mod Stored
 pub mod Range
 pub mod Numbers
 pub mod Leaving
 pub mod Cells
 pub mod Reading
 pub mod Busy
-pub mod Settled
 pub mod Free
+pub mod Settled

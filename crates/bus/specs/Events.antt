@@ -1,34 +1,31 @@
 -- Events in order: any list of transfers and waits since switching on.
 use Prim.Native.Nat.{ℕ, _+_}
 use mathlib.Core.List.{List, [], _∷_}
+use Rattle.event.specs.declared.Event.{Event}
+use Rattle.event.specs.declared.Event.the-variants.{Transfer, Wait}
 use Rattle.controller.specs.declared.Controller.{Controller}
+use Rattle.controller.specs.Answers.{Said}
 use Rattle.controller.specs.Part.{switchedOn}
-use Rattle.bus.specs.declared.event.Event.{Event}
-use Rattle.bus.specs.declared.event.Event.the-variants.{Transfer, Wait}
-use Rattle.bus.specs.Transfer.{Told, transferOf, waitOf}
+use Rattle.controller.specs.Told.{Told}
+use Rattle.bus.specs.Transfer.{transferOf, waitOf}
 
 unfoldable pub toldBy : Event → Controller → Told
 toldBy (Transfer k n) c = transferOf c k n
 toldBy (Wait n) c = waitOf c n
 
 -- the controller after the events, one after the other
-unfoldable pub run : List Event → Controller → Controller
-run [] c = c
-run (e ∷ es) c = run es (toldBy e c .controller)
+unfoldable pub afterEvents : List Event → Controller → Controller
+afterEvents [] c = c
+afterEvents (e ∷ es) c = afterEvents es (toldBy e c .controller)
 
 -- the controllers that a part just switched on can come to, halves lost or doubled included
 abbrev pub reached : List Event → Controller
-reached past = run past switchedOn
-
--- an answer and the value read with it
-pub record Said : Type 0 where
-  pub number : ℕ
-  pub value : ℕ
+reached past = afterEvents past switchedOn
 
 -- all that the events are answered, in order
 unfoldable pub saidBy : List Event → Controller → List Said
 saidBy [] c = []
-saidBy (e ∷ es) c = record { number = toldBy e c .number; value = toldBy e c .value } ∷ saidBy es (toldBy e c .controller)
+saidBy (e ∷ es) c = toldBy e c .said ∷ saidBy es (toldBy e c .controller)
 
 -- ---- waits alone
 unfoldable pub waits : List ℕ → Controller → Controller

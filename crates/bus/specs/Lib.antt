@@ -1,6 +1,3 @@
-pub mod Memory
-pub mod Data
-pub mod Halves
 pub mod Transfer
 pub mod Events
 pub mod Refusals

@@ -4,25 +4,27 @@ use mathlib.Core.Path.{_≡_}
 use mathlib.Core.Logic.{_⊎_, _≢_}
 use mathlib.Core.Bool.{Bool, false, _&&_, cond, not}
 use mathlib.Core.List.{List}
-use lib.ListN.{getD, replicate}
 use lib.Dec.{T, eqb}
+use lib.ListN.{getD, replicate}
+use Rattle.condition.specs.First.{Exactly}
 use Rattle.counters.specs.declared.LineMode.{LineMode}
 use Rattle.counters.specs.declared.counter.Counter.{Counter}
 use Rattle.counters.specs.declared.counter.Counter.the-variants.{Display, Character}
 use Rattle.counters.specs.Address.{cellOf}
+use Rattle.event.specs.declared.Event.{Event}
+use Rattle.event.specs.declared.Kind.{Kind}
+use Rattle.event.specs.declared.Kind.the-variants.{InstructionWrite, DataWrite, StatusRead, DataRead}
+use Rattle.event.specs.Kind.{isRead}
+use Rattle.halves.specs.declared.Half.{Half}
 use Rattle.controller.specs.declared.Controller.{Controller}
 use Rattle.controller.specs.declared.effect.Effect.{Effect}
-use Rattle.controller.specs.declared.half.Half.{Half}
-use Rattle.controller.specs.Part.{inRange, awaiting}
-use Rattle.controller.specs.Instructions.{decode, ticksOf, resultOf}
+use Rattle.controller.specs.Part.{with, awaiting, longest, inRange}
+use Rattle.controller.specs.Told.{Told, toldWith}
+use Rattle.instructions.specs.Instructions.{decode, rowOf}
 use Rattle.bus.specs.declared.Outcome.{Outcome}
-use Rattle.bus.specs.declared.kind.Kind.{Kind}
-use Rattle.bus.specs.declared.turn.Turned.{Turned}
-use Rattle.bus.specs.Halves.{isRead}
-use Rattle.bus.specs.Transfer.{Told, told, toldWith, transferOf, waitOf}
-use Rattle.bus.specs.declared.event.Event.{Event}
+use Rattle.bus.specs.Transfer.{told, transferOf, waitOf}
 use Rattle.bus.specs.Events.{toldBy, reached, waits, sum}
-use Rattle.bus.specs.Refusals.{completed, conditions, Exactly}
+use Rattle.bus.specs.Refusals.{byteOf, transferRules, waitRules}
 
 -- ---- range
 -- every transfer and every wait keeps a controller in range,
@@ -34,21 +36,21 @@ abbrev pub ReachedInRange : Type 0
 ReachedInRange = (past : List Event) → T (inRange (reached past .registers))
 
 -- ---- demand 1: exactly when, and what a refusal leaves
-abbrev pub GivenExactly : Type 0
-GivenExactly = (c : Controller) (k : Kind) (n : ℕ) → Exactly (transferOf c k n .number) (conditions c k n)
+abbrev pub TransferGivenExactly : Type 0
+TransferGivenExactly = (c : Controller) (k : Kind) (n : ℕ) → Exactly (transferOf c k n .said .number) (transferRules c k n) 0
 
 abbrev pub WaitGivenExactly : Type 0
-WaitGivenExactly = (c : Controller) (n : ℕ) → waitOf c n .number ≡ cond (inRange (c .registers)) 0 16
+WaitGivenExactly = (c : Controller) (n : ℕ) → Exactly (waitOf c n .said .number) (waitRules c) 0
 
 -- the controller with another half, and nothing else changed
 abbrev pub halved : Controller → Half → Controller
-halved c h = record { display = c .display; character = c .character; registers = awaiting (c .registers) h (c .registers .busy) }
+halved c h = with (c .display) (c .character) (awaiting (c .registers) h (c .registers .busy))
 
 -- 16 and 1 leave the whole state; 2 and 3 leave all but the half, which is forgotten; a refused call returns 0 for any value
 pub record Leaves (c : Controller) (t : Told) : Type 0 where
-  pub whole : (t .number ≡ 16) ⊎ (t .number ≡ 1) → t .controller ≡ c
-  pub but-half : (t .number ≡ 2) ⊎ (t .number ≡ 3) → t .controller ≡ halved c Half.Nothing
-  pub no-value : t .number ≢ 0 → t .number ≢ 20 → t .value ≡ 0
+  pub whole : (t .said .number ≡ 16) ⊎ (t .said .number ≡ 1) → t .controller ≡ c
+  pub but-half : (t .said .number ≡ 2) ⊎ (t .said .number ≡ 3) → t .controller ≡ halved c Half.Nothing
+  pub no-value : t .said .number ≢ 0 → t .said .number ≢ 20 → t .said .value ≡ 0
 
 abbrev pub RefusalLeaves : Type 0
 RefusalLeaves = (e : Event) (c : Controller) → Leaves c (toldBy e c)
@@ -64,46 +66,46 @@ namesCharacter (Character a) j = eqb j (a .0)
 
 -- a transfer with this answer is Clear: it completes the byte 01 and is not refused
 unfoldable pub clears : Kind → Controller → (n number : ℕ) → Bool
-clears Kind.InstructionWrite c n number = eqb number 0 && eqb (completed (c .registers .bus) (c .registers .half) n) 0x01
-clears Kind.DataWrite c n number = false
-clears Kind.StatusRead c n number = false
-clears Kind.DataRead c n number = false
+clears InstructionWrite c n number = eqb number 0 && eqb (byteOf (c .registers) n) 0x01
+clears DataWrite c n number = false
+clears StatusRead c n number = false
+clears DataRead c n number = false
 
 pub record Cells (c : Controller) (k : Kind) (n : ℕ) (t : Told) : Type 0 where
   -- every cell but the addressed one stays, unless the transfer is Clear
-  pub other-cells : T (not (clears k c n (t .number))) → (i : ℕ) → T (not (namesCell (c .registers .mode .lines) (c .registers .counter) i))
+  pub other-cells : T (not (clears k c n (t .said .number))) → (i : ℕ) → T (not (namesCell (c .registers .mode .lines) (c .registers .counter) i))
       → getD (t .controller .display) i 0 ≡ getD (c .display) i 0
   pub other-characters : (j : ℕ) → T (not (namesCharacter (c .registers .counter) j)) → getD (t .controller .character) j 0 ≡ getD (c .character) j 0
   -- Clear sets all 80 display cells to 20 hex and no character byte
-  pub cleared : T (clears k c n (t .number)) → (t .controller .display ≡ replicate 80 0x20) × (t .controller .character ≡ c .character)
+  pub cleared : T (clears k c n (t .said .number)) → (t .controller .display ≡ replicate 80 0x20) × (t .controller .character ≡ c .character)
   -- reads, first halves and refusals change none
-  pub none : T (isRead k) ⊎ (t .number ≢ 0) → (t .controller .display ≡ c .display) × (t .controller .character ≡ c .character)
+  pub none : T (isRead k) ⊎ (t .said .number ≢ 0) → (t .controller .display ≡ c .display) × (t .controller .character ≡ c .character)
 
 abbrev pub OneCellAtMost : Type 0
 OneCellAtMost = (c : Controller) (k : Kind) (n : ℕ) → Cells c k n (transferOf c k n)
 
 -- ---- reads
 abbrev pub DataReadNeverMoves : Type 0
-DataReadNeverMoves = (c : Controller) (n : ℕ) → transferOf c Kind.DataRead n .controller .registers .shift ≡ c .registers .shift
+DataReadNeverMoves = (c : Controller) (n : ℕ) → transferOf c DataRead n .controller .registers .shift ≡ c .registers .shift
 
 abbrev pub StatusReadChangesOnlyHalf : Type 0
 StatusReadChangesOnlyHalf =
     (c : Controller) (n : ℕ) →
-    transferOf c Kind.StatusRead n .controller ≡ halved c (transferOf c Kind.StatusRead n .controller .registers .half)
+    transferOf c StatusRead n .controller ≡ halved c (transferOf c StatusRead n .controller .registers .half)
 
 -- ---- busy time
 -- the ticks that a completed transfer takes: the instruction table's, 10 for data, none for a status read
 unfoldable pub busyFor : Kind → Controller → ℕ → ℕ
-busyFor Kind.InstructionWrite c n = ticksOf (decode (completed (c .registers .bus) (c .registers .half) n))
-busyFor Kind.DataWrite c n = 10
-busyFor Kind.StatusRead c n = c .registers .busy
-busyFor Kind.DataRead c n = 10
+busyFor InstructionWrite c n = rowOf (decode (byteOf (c .registers) n)) (c .registers) .ticks
+busyFor DataWrite c n = 10
+busyFor StatusRead c n = c .registers .busy
+busyFor DataRead c n = 10
 
 -- after 0 the table's ticks; a first half and a refusal cost none
 abbrev pub BusyByTable : Type 0
 BusyByTable =
     (c : Controller) (k : Kind) (n : ℕ) →
-    transferOf c k n .controller .registers .busy ≡ cond (eqb (transferOf c k n .number) 0) (busyFor k c n) (c .registers .busy)
+    transferOf c k n .controller .registers .busy ≡ cond (eqb (transferOf c k n .said .number) 0) (busyFor k c n) (c .registers .busy)
 
 -- a wait of n lowers it by n, not below 0
 abbrev pub WaitLowers : Type 0
@@ -111,16 +113,13 @@ WaitLowers = (c : Controller) (n : ℕ) → T (inRange (c .registers)) → waitO
 
 -- after waits of 3,750 ticks in all with no transfer between, the next transfer is not refused with 1
 abbrev pub WaitedEnough : Type 0
-WaitedEnough = (c : Controller) (ns : List ℕ) → 3750 ≤ sum ns → (k : Kind) (n : ℕ) → transferOf (waits ns c) k n .number ≢ 1
+WaitedEnough = (c : Controller) (ns : List ℕ) → longest ≤ sum ns → (k : Kind) (n : ℕ) → transferOf (waits ns c) k n .said .number ≢ 1
 
 -- ---- any two outcomes that a promise allows are equal
-abbrev pub OutcomeSettled : Type 0
-OutcomeSettled = (o p : Outcome) (t : Told) → told o ≡ t → told p ≡ t → o ≡ p
+abbrev pub TransferSettled : Type 0
+TransferSettled = (o p : Outcome) (t : Told) → told o ≡ t → told p ≡ t → o ≡ p
 
 -- of a turn also each byte of both memories
 abbrev pub TurnSettled : Type 0
 TurnSettled =
-    (t u : Turned) (d m e n : List ℕ) (x : Told) → toldWith d m t ≡ x → toldWith e n u ≡ x → (t ≡ u) × (d ≡ e) × (m ≡ n)
-
-abbrev pub EffectSettled : Type 0
-EffectSettled = (e f : Effect) → resultOf e ≡ resultOf f → e ≡ f
+    (e f : Effect) (d m d′ m′ : List ℕ) (t : Told) → toldWith d m e ≡ t → toldWith d′ m′ f ≡ t → (e ≡ f) × (d ≡ d′) × (m ≡ m′)

@@ -57,12 +57,19 @@ counter-exists r t = is-true _ (facts r (holds (inRange r) t) .counter)
 pub upper-small : (r : Registers) → inRange r ≡ true → upperOf (r .half) ≤ 15
 upper-small r t = upper-fits (r .bus) (r .half) (facts r (holds (inRange r) t) .half)
 
--- with no half waiting, and a busy time of the table
-pub unhalved : (r : Registers) (t : ℕ) → InRange r → t ≤ longest → InRange (awaiting r Half.Nothing t)
+-- ---- with no half waiting, only the counter, the shift and the busy time matter
+pub record Placed (r : Registers) : Type 0 where
+  pub counter : T (hasCounter (r .mode .lines) (r .counter))
+  pub shift : T (hasShift (r .mode .lines) (r .shift))
+
+pub placed-of : (r : Registers) → InRange r → Placed r
+placed-of r f = record { counter = f .counter; shift = f .shift }
+
+pub unhalved : (r : Registers) (t : ℕ) → Placed r → t ≤ longest → InRange (awaiting r Half.Nothing t)
 unfolding halfFits
-unhalved r t f h = record { counter = f .counter; shift = f .shift; half = tt; busy = h }
+unhalved r t p h = record { counter = p .counter; shift = p .shift; half = tt; busy = h }
 
 pub unhalved-in-range : (r : Registers) → inRange r ≡ true → inRange (awaiting r Half.Nothing (r .busy)) ≡ true
 unhalved-in-range r t =
     let f : InRange r = facts r (holds (inRange r) t) in
-    is-true _ (test (awaiting r Half.Nothing (r .busy)) (unhalved r (r .busy) f (f .busy)))
+    is-true _ (test (awaiting r Half.Nothing (r .busy)) (unhalved r (r .busy) (placed-of r f) (f .busy)))

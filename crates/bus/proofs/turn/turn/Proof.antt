@@ -1,25 +1,26 @@
+-- A transfer or a wait, as the event says; the range is kept.
 use Prim.Native.Nat.{ℕ}
-use mathlib.Core.Path.{_≡_, sym, ap, _∙_, subst⁻¹}
+use mathlib.Core.Path.{_≡_, _∙_, ap, subst⁻¹, sym}
 use mathlib.Core.Bool.{true}
 use mathlib.Core.List.{List}
-use borrow.Author.Needs.{needs}
 use lib.Dec.{T}
 use Rattle.condition.proofs.Tests.{holds, is-true}
+use Rattle.event.specs.declared.Event.{Event}
 use Rattle.controller.specs.declared.Controller.{Controller}
 use Rattle.controller.specs.declared.answer.Answer.{Answer}
+use Rattle.controller.specs.declared.effect.Effect.{Effect}
 use Rattle.controller.specs.declared.registers.Registers.{Registers}
-use Rattle.controller.specs.Part.{inRange, waited}
-use Rattle.bus.specs.declared.event.Event.{Event}
-use Rattle.bus.specs.declared.turn.Turned.{Turned}
-use Rattle.bus.specs.Transfer.{Told, with, toldWith, waitOf}
+use Rattle.controller.specs.Part.{with, waited, inRange}
+use Rattle.controller.specs.Told.{Told, toldWith}
+use Rattle.bus.specs.Transfer.{waitOf}
 use Rattle.bus.specs.Events.{toldBy}
-use Rattle.bus.proofs.Busy.{waited-told}
 use Rattle.bus.proofs.Range.{range-kept}
+use Rattle.bus.proofs.Busy.{waited-told}
+use borrow.Author.Needs.{needs}
 use Rattle.bus.proofs.turn.turn.Statement.{statement}
 use Rattle.bus.proofs.turn.turn.Tie as tie
 
--- what the event that was met comes to, and the range is kept
-gave : (c : Controller) (t : Turned) {event met : Event} {d m : List ℕ} → inRange (c .registers) ≡ true → event ≡ met → toldWith d m t ≡ toldBy met c
+gave : (c : Controller) (t : Effect) {event met : Event} {d m : List ℕ} → inRange (c .registers) ≡ true → event ≡ met → toldWith d m t ≡ toldBy met c
     → (toldWith d m t ≡ toldBy event c) × (inRange (t .registers) ≡ true)
 gave c t {met = met} u e p = (
   p ∙ ap (λ (x : Event). toldBy x c) (sym e),
@@ -47,16 +48,17 @@ waited-requires c κs = search needs
 returns : tie.Need-returns
 unfolding toldBy
 returns c =
-    let start = c .before .before .before .before .before .before in
-    gave (with (start .args .display .now) (start .args .character .now) (start .args .registers)) (c .transferred .result) (start .pre) (c .before .before .before .before .event .given .1) (c .transferred .ensures)
+    let given = c .before .before .before .before in
+    let start = given .before .before .before in
+    gave (with (start .args .display .now) (start .args .character .now) (start .args .registers)) (c .before .transferred .result) (start .pre) (given .before .event .given .1) (c .before .transferred .ensures)
 
 returns-2 : tie.Need-returns-2
 unfolding toldBy
 returns-2 c =
-    let start = c .before .before .before .before in
-    let part = with (start .args .display .now) (start .args .character .now) (start .args .registers) in
-    gave part (record { registers = c .waited .result; answer = Answer.Done 0 }) (start .pre) (c .before .before .event2 .given .1)
-    (waited-out part _ (start .pre) (c .waited .ensures))
+    let given = c .before .before in
+    let start = given .before .before in
+    gave (with (start .args .display .now) (start .args .character .now) (start .args .registers)) (record { registers = c .waited .result; answer = Answer.Done 0 }) (start .pre) (given .event2 .given .1)
+    (waited-out (with (start .args .display .now) (start .args .character .now) (start .args .registers)) _ (start .pre) (c .waited .ensures))
 
 pub turn-spec : {M : Type 1} → statement M
 turn-spec =
