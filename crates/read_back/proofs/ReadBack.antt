@@ -6,34 +6,35 @@ use mathlib.Core.Bool.{false}
 use mathlib.Core.Option.{Option, none, some}
 use native.Mathlib.Omega.{arith}
 use borrow.Author.Tests.{eq-eqb, le-ltb, le-leb}
-use lib.ListN.{length, getD, take, drop, length-append, length-drop}
-use lib.Seq.{take-at, drop-at, drop-drop}
-use Rattle.record.specs.declared.events.Event.{Event}
-use Rattle.record.specs.declared.events.Meaning.the-variants.{WellFormed}
-use Rattle.record.specs.declared.soundness.Checked.the-variants.{Sound}
-use Rattle.record.specs.declared.places.Step.{Step}
-use Rattle.record.specs.declared.places.Step.the-variants.{Found}
-use Rattle.record.specs.declared.appending.Appended.the-variants.{Done}
-use Rattle.record.specs.declared.empty_record.Emptied.the-variants.{Done as Begun}
-use Rattle.record.specs.Event.{eventOf, isNone, rawOf, Fits, wordOf, bytesOf}
-use Rattle.record.specs.Record.{framed, bodyOf, recordOf, threeAt, runIn, eventsOf, checkOf}
-use Rattle.record.specs.Place.{eventAt, nextOf, Stands}
+use lib.ListN.{length, getD, drop, length-append, length-drop}
+use lib.Seq.{drop-drop}
+use Rattle.condition.specs.First.{firstOf}
 use Rattle.lent.proofs.Left.{front-and-rest}
-use Rattle.record.specs.Append.{longer, appendOf}
-use Rattle.record.specs.Empty.{emptyRecord, emptyOf}
-use Rattle.record.specs.Written.{AllFit, Written, begun, more, Read, no-more, then, givenFrom}
-use Rattle.record.specs.Theorems.{ReadsBack, SoundExactlyWhenWritten, EarlierEventsStay}
-use Rattle.record.proofs.Meanings.{meant}
+use Rattle.event.specs.declared.Event.{Event}
+use Rattle.record.specs.declared.answer.Answer.the-variants.{Done as Sound}
+use Rattle.record.specs.declared.places.Step.{Step}
+use Rattle.record.specs.declared.places.Step.the-variants.{Found}
+use Rattle.record.specs.Event.{eventOf, isNone, rawOf, Fits, wordOf, bytesOf}
+use Rattle.record.specs.Record.{mostEvents, mostBytes, framed, bodyOf, recordOf, threeAt, frontEvents, eventsOf, checkOf}
+use Rattle.record.specs.Place.{eventAt, nextOf, Stands}
+use Rattle.record.specs.Reading.{AllFit, Read, no-more, then, givenFrom}
 use Rattle.record.proofs.Encoded.{Known, fits-known, known, word-of-value}
-use Rattle.record.proofs.Runs.{drop-three}
-use Rattle.record.proofs.Sound.{sound, append-roomy, append-done}
+use Rattle.record.proofs.FrontEvents.{drop-three}
+use Rattle.record.proofs.Sound.{sound}
 use Rattle.record.proofs.Standing.{stands-end, stands-some}
-use Rattle.record.proofs.Framed.{AllKnown, known-more, record-sound, record-size, record-longer, longer-size, sound-run, sound-record, longer-sound}
-use Rattle.record.proofs.Unique.{event-at-settled}
+use Rattle.record.proofs.Framed.{AllKnown, known-more, record-sound, record-size, sound-front, sound-record}
+use Rattle.record.proofs.Settled.{event-at-settled}
+use Rattle.appending.specs.declared.answer.Answer.the-variants.{Done}
+use Rattle.appending.specs.Append.{longer, appendOf}
+use Rattle.appending.specs.Empty.{emptyRecord, emptyOf}
+use Rattle.appending.proofs.Refusals.{append-roomy, append-done}
+use Rattle.read_back.specs.Written.{Written, begun, more}
+use Rattle.read_back.specs.Theorems.{ReadsBack, SoundExactlyWhenWritten, EarlierEventsStay}
+use Rattle.read_back.proofs.Longer.{record-longer, longer-size, longer-sound}
 
 record Made (events : List Event) (bytes : List ℕ) : Type 0 where
   same : bytes ≡ recordOf events
-  few : length events ≤ 4096
+  few : length events ≤ mostEvents
   all : AllKnown events
 
 made : {events : List Event} {bytes : List ℕ} → Written events bytes → Made events bytes
@@ -46,7 +47,7 @@ made (more {events} {bytes} {out} {left} {r} event w p done) =
     let h = append-done bytes (rawOf event) (length out) zero in
     let size : length bytes ≡ length events * 3 + 3 = ap length (m .same) ∙ record-size events in
     let new = front-and-rest _ (length bytes + 3) (longer bytes (rawOf event)) out left (p .buffer) zero (longer-size bytes (rawOf event) (omega arith)) in
-    let less : length bytes ≡ 12291 → ⊥ = h .less in
+    let less : length bytes ≡ mostBytes → ⊥ = h .less in
     record {
       same = new .0 ∙ ap (λ (l : List ℕ). longer l (rawOf event)) (m .same) ∙ record-longer events event;
       few = omega (arith, length-append events (event ∷ []), m .few);
@@ -105,13 +106,13 @@ given-size place (event ∷ events) = ap suc (given-size (place + 3) events)
 written-sound : {events : List Event} {bytes : List ℕ} → Written events bytes → checkOf bytes ≡ 0
 written-sound {events} {bytes} w = let m = made w in ap checkOf (m .same) ∙ record-sound events (m .all) (m .few)
 
-append-more : {events : List Event} {bytes : List ℕ} (event : Event) (buffer : ℕ) → Written events bytes → length events < 4096 → Fits event → length bytes + 3 ≤ buffer → appendOf bytes (rawOf event) buffer ≡ 0
+append-more : {events : List Event} {bytes : List ℕ} (event : Event) (buffer : ℕ) → Written events bytes → length events < mostEvents → Fits event → length bytes + 3 ≤ buffer → appendOf bytes (rawOf event) buffer ≡ 0
 append-more {events} {bytes} event buffer w few fits room =
     let size = written-size w in
-    sym (append-roomy bytes (rawOf event) buffer Sound (sym (written-sound w)) refl (WellFormed event) (meant (rawOf event) (WellFormed event) (sym (fits-known event fits))) event refl (λ z. omega arith) room)
+    sym (append-roomy bytes (rawOf event) buffer Sound (sym (written-sound w)) refl false (sym (ap isNone (fits-known event fits))) refl (λ z. omega arith) room)
 
 empty-zero : (buffer : ℕ) → 3 ≤ buffer → emptyOf buffer ≡ 0
-unfolding emptyOf
+unfolding emptyOf firstOf
 empty-zero buffer h = simp (le-ltb _ _ h)
 
 read-written : {events : List Event} {bytes : List ℕ} → Written events bytes → Read bytes 3 (givenFrom 3 events)
@@ -125,22 +126,22 @@ read-no-other : {events : List Event} {bytes : List ℕ} {answers : List Step} �
 read-no-other {events} w r size = read-same r (read-written w) (size ∙ sym (given-size 3 events))
 
 -- one event more, into a buffer that just has room
-write-one : {events : List Event} {bytes : List ℕ} (event : Event) → Written events bytes → length events < 4096 → Fits event → (bytes′ : List ℕ) × Written (events ++ (event ∷ [])) bytes′
+write-one : {events : List Event} {bytes : List ℕ} (event : Event) → Written events bytes → length events < mostEvents → Fits event → (bytes′ : List ℕ) × Written (events ++ (event ∷ [])) bytes′
 write-one {events} {bytes} event w few fits =
     let size = written-size w in
     let zero = append-more event (length (longer bytes (rawOf event))) w few fits (omega (arith, longer-size bytes (rawOf event) (omega arith))) in
     (_, more {out = longer bytes (rawOf event)} {r = Done} event w record { number = sym zero; buffer = refl } refl)
 
-write-on : (front back : List Event) (bytes : List ℕ) → Written front bytes → length front + length back ≤ 4096 → AllFit back → (bytes′ : List ℕ) × Written (front ++ back) bytes′
+write-on : (front back : List Event) (bytes : List ℕ) → Written front bytes → length front + length back ≤ mostEvents → AllFit back → (bytes′ : List ℕ) × Written (front ++ back) bytes′
 write-on front [] bytes w few fit = (bytes, subst (λ (l : List Event). Written l bytes) (sym (append-nil front)) w)
 write-on front (event ∷ back) bytes w few fit =
     let one = write-one event w (omega arith) (fit .0) in
     let rest = write-on (front ++ (event ∷ [])) back (one .0) (one .1) (omega (arith, length-append front (event ∷ []))) (fit .1) in
     (rest .0, subst (λ (l : List Event). Written l (rest .0)) (append-assoc front (event ∷ []) back) (rest .1))
 
-each-list : (events : List Event) → length events ≤ 4096 → AllFit events → (bytes : List ℕ) × Written events bytes
+each-list : (events : List Event) → length events ≤ mostEvents → AllFit events → (bytes : List ℕ) × Written events bytes
 each-list events few fit =
-    write-on [] events _ (begun {out = emptyRecord} {r = Begun} record { number = sym (empty-zero 3 (omega arith)); buffer = refl } refl) (omega arith) fit
+    write-on [] events _ (begun {out = emptyRecord} {r = Done} record { number = sym (empty-zero 3 (omega arith)); buffer = refl } refl) (omega arith) fit
 
 pub reads-back : ReadsBack
 reads-back = record {
@@ -157,9 +158,9 @@ sound-exactly-when-written bytes small = (
   λ zero.
       let h = sound bytes zero in
       let again = sound-record bytes small h in
-      let few = sound-run bytes h .1 in
-      let w = each-list (runIn (drop 3 bytes)) few (again .1) in
-      (runIn (drop 3 bytes), few, again .1, subst (Written (runIn (drop 3 bytes))) (made (w .1) .same ∙ sym (again .0)) (w .1)),
+      let few = sound-front bytes h .1 in
+      let w = each-list (frontEvents (drop 3 bytes)) few (again .1) in
+      (frontEvents (drop 3 bytes), few, again .1, subst (Written (frontEvents (drop 3 bytes))) (made (w .1) .same ∙ sym (again .0)) (w .1)),
   λ some-list. written-sound (some-list .3),
 )
 

@@ -1,21 +1,17 @@
 -- The reader of a record gives back what was written.
 use Prim.Native.Nat.{ℕ}
 use mathlib.Core.List.{List}
-use mathlib.Core.Path.{_≡_, refl, sym, ap, subst, _∙_}
-use borrow.Author.Tests.{eq-eqb, ne-eqb}
-use lib.ListN.{length}
+use mathlib.Core.Path.{_≡_, refl, sym, subst, _∙_}
+use borrow.Author.Tests.{eq-eqb}
 use denote.Ref.{RefT, now}
-use Rattle.record.proofs.ReadBack.{reads-back}
-use Rattle.record.proofs.Standing.{stands-end}
-use Rattle.record.proofs.Unique.{event-at-settled}
 use Rattle.record.specs.declared.places.Step.{Step}
-use Rattle.record.specs.declared.places.Step.the-variants.{End}
 use Rattle.record.specs.Record.{checkOf}
 use Rattle.record.specs.Place.{nextOf}
-use Rattle.record.specs.Written.{Read, no-more as read-all, then as and-then}
+use Rattle.record.specs.Reading.{Read, no-more as read-all, then as and-then}
 use Rattle.reader.specs.declared.Reader.{Reader}
-use Rattle.reader.specs.Theorems.{Gives, no-more, then, ReaderGivesBack, RefusedGivesNone}
-use Rattle.reader.proofs.Unique.{same-reader}
+use Rattle.read_back.specs.Written.{Gives, no-more, then}
+use Rattle.read_back.specs.Theorems.{ReaderGivesBack}
+use Rattle.read_back.proofs.ReadBack.{reads-back}
 
 -- what a reader gives is read in turn from its place on
 in-turn : {reader : Reader} {answers : List Step} → Gives reader answers → Read (now (reader .bytes)) (reader .place) answers
@@ -39,10 +35,3 @@ reader-gives-back bytes r events w p =
       gives = in-calls (r .reader .bytes) (rw (p .held, start) (reads-back .gives w));
       gives-no-other = λ answers g size. reads-back .gives-no-other w (rw (p .held, start) at (in-turn g)) size;
     }
-
-pub refused-gives-none : RefusedGivesNone
-refused-gives-none bytes r step after refused p q =
-    let held = r .reader .bytes in
-    let start : r .reader .place ≡ length (now bytes) = p .start ∙ simp (ne-eqb _ _ refused) in
-    let end = stands-end (now held) (r .reader .place) (start ∙ ap (λ (b : RefT (List ℕ)). length (now b)) (sym (p .held))) in
-    (event-at-settled (now held) (r .reader .place) step End (q .stands) end, same-reader after (r .reader) (q .held) (q .moved ∙ sym (end .next)))
