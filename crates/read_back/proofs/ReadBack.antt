@@ -9,8 +9,8 @@ use borrow.Author.Tests.{eq-eqb, le-ltb, le-leb}
 use lib.ListN.{length, getD, drop, length-append, length-drop}
 use lib.Seq.{drop-drop}
 use Rattle.condition.specs.First.{firstOf}
-use Rattle.lent.proofs.Left.{front-and-rest}
 use Rattle.event.specs.declared.Event.{Event}
+use Rattle.lent.proofs.Left.{front-and-rest}
 use Rattle.record.specs.declared.answer.Answer.the-variants.{Done as Sound}
 use Rattle.record.specs.declared.places.Step.{Step}
 use Rattle.record.specs.declared.places.Step.the-variants.{Found}

@@ -1,4 +1,4 @@
--- `put_number` meets its contract.
+-- The digits are put, and then one byte behind them.
 use native.Mathlib.Omega.{arith}
 use borrow.Author.Needs.{needs}
 use Rattle.lent.proofs.Placed.{puts-one, puts-then}

@@ -1,4 +1,4 @@
--- `put_text` meets its contract. The invariant: the first i bytes of the text are put.
+-- The invariant: the first i bytes of the text are put.
 use Prim.Native.Nat.{_-_, _≤_}
 use mathlib.Core.Path.{_≡_, refl}
 use native.Mathlib.Omega.{arith}
