@@ -1,11 +1,11 @@
 -- Laws of bytes put at a place of a buffer.
 use Prim.Native.Nat.{ℕ, suc, _+_, _≤_, _<_}
-use mathlib.Core.Path.{_≡_, refl, sym, ap, _∙_}
-use mathlib.Core.List.{List, [], _∷_, _++_, append-assoc}
-use native.Mathlib.Numerals.{add-one}
-use native.Mathlib.Omega.{arith}
 use lib.ListN.{length, take, drop, set, getD, length-append, length-take, length-drop, take-append-drop}
 use lib.Seq.{take-append-seam, drop-append-add, drop-at, drop-drop, take-set-le, set-split, length-take-le, take-suc, take-all}
+use mathlib.Core.List.{List, [], _∷_, _++_, append-assoc}
+use mathlib.Core.Path.{_≡_, refl, sym, ap, _∙_}
+use native.Mathlib.Numerals.{add-one}
+use native.Mathlib.Omega.{arith}
 use Rattle.lent.specs.Put.{putAt, Puts}
 
 put-length : (place : ℕ) (new out : List ℕ) → place + length new ≤ length out → length (putAt place new out) ≡ length out

@@ -1,10 +1,10 @@
 -- Laws of parts that are lent one behind the other and given back.
 use Prim.Native.Nat.{ℕ, _+_, _-_}
-use mathlib.Core.Path.{_≡_, sym, _∙_}
-use mathlib.Core.List.{List, _++_, append-assoc, append-nil}
-use native.Mathlib.Nat.{zero-add, add-sub-cancel-left}
 use lib.ListN.{length, take, drop, length-append}
 use lib.Seq.{take-at, drop-length, drop-at, drop-drop}
+use mathlib.Core.List.{List, _++_, append-assoc, append-nil}
+use mathlib.Core.Path.{_≡_, sym, _∙_}
+use native.Mathlib.Nat.{zero-add, add-sub-cancel-left}
 use Rattle.lent.specs.Put.{putAt, Puts}
 
 -- what is lent from the end of a front on, and given back

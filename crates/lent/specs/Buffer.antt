@@ -1,9 +1,9 @@
 -- "A refused call … writes to no buffer", and "bytes behind them stay": what a call leaves in a lent buffer.
 use Prim.Native.Nat.{ℕ}
+use lib.Dec.{eqb}
+use lib.ListN.{length, drop}
 use mathlib.Core.Bool.{cond}
 use mathlib.Core.List.{List, _++_}
-use lib.ListN.{length, drop}
-use lib.Dec.{eqb}
 
 -- new bytes at the front; bytes behind them stay
 unfoldable pub over : (new out : List ℕ) → List ℕ

@@ -1,8 +1,8 @@
 -- Bytes put at a place of a lent buffer.
 use Prim.Native.Nat.{ℕ, _+_}
+use lib.ListN.{length, take, drop}
 use mathlib.Core.List.{List, _++_}
 use mathlib.Core.Path.{_≡_}
-use lib.ListN.{length, take, drop}
 
 -- new bytes from a place on; the bytes before and behind them stay
 unfoldable pub putAt : ℕ → List ℕ → List ℕ → List ℕ

@@ -1,35 +1,35 @@
 -- A bench record reads back as it was written.
 use Prim.Native.Nat.{ℕ, suc, _+_, _-_, _*_, _/_, _%_, _≤_, _<_}
-use mathlib.Core.Path.{_≡_, refl, sym, ap, subst, _∙_}
-use mathlib.Core.List.{List, [], _∷_, _++_, append-assoc, append-nil}
-use mathlib.Core.Bool.{false}
-use mathlib.Core.Option.{Option, none, some}
-use native.Mathlib.Omega.{arith}
 use borrow.Author.Tests.{eq-eqb, le-ltb, le-leb}
 use lib.ListN.{length, getD, drop, length-append, length-drop}
 use lib.Seq.{drop-drop}
+use mathlib.Core.Bool.{false}
+use mathlib.Core.List.{List, [], _∷_, _++_, append-assoc, append-nil}
+use mathlib.Core.Option.{Option, none, some}
+use mathlib.Core.Path.{_≡_, refl, sym, ap, subst, _∙_}
+use native.Mathlib.Omega.{arith}
+use Rattle.appending.proofs.Refusals.{append-roomy, append-done}
+use Rattle.appending.specs.Append.{longer, appendOf}
+use Rattle.appending.specs.Empty.{emptyRecord, emptyOf}
+use Rattle.appending.specs.declared.answer.Answer.the-variants.{Done}
 use Rattle.condition.specs.First.{firstOf}
 use Rattle.event.specs.declared.Event.{Event}
 use Rattle.lent.proofs.Left.{front-and-rest}
+use Rattle.record.proofs.Encoded.{Known, fits-known, known, word-of-value}
+use Rattle.record.proofs.Framed.{AllKnown, known-more, record-sound, record-size, sound-front, sound-record}
+use Rattle.record.proofs.FrontEvents.{drop-three}
+use Rattle.record.proofs.Settled.{event-at-settled}
+use Rattle.record.proofs.Sound.{sound}
+use Rattle.record.proofs.Standing.{stands-end, stands-some}
+use Rattle.record.specs.Event.{eventOf, isNone, rawOf, Fits, wordOf, bytesOf}
+use Rattle.record.specs.Place.{eventAt, nextOf, Stands}
+use Rattle.record.specs.Reading.{AllFit, Read, no-more, then, givenFrom}
+use Rattle.record.specs.Record.{mostEvents, mostBytes, framed, bodyOf, recordOf, threeAt, frontEvents, eventsOf, checkOf}
 use Rattle.record.specs.declared.answer.Answer.the-variants.{Done as Sound}
 use Rattle.record.specs.declared.places.Step.{Step}
 use Rattle.record.specs.declared.places.Step.the-variants.{Found}
-use Rattle.record.specs.Event.{eventOf, isNone, rawOf, Fits, wordOf, bytesOf}
-use Rattle.record.specs.Record.{mostEvents, mostBytes, framed, bodyOf, recordOf, threeAt, frontEvents, eventsOf, checkOf}
-use Rattle.record.specs.Place.{eventAt, nextOf, Stands}
-use Rattle.record.specs.Reading.{AllFit, Read, no-more, then, givenFrom}
-use Rattle.record.proofs.Encoded.{Known, fits-known, known, word-of-value}
-use Rattle.record.proofs.FrontEvents.{drop-three}
-use Rattle.record.proofs.Sound.{sound}
-use Rattle.record.proofs.Standing.{stands-end, stands-some}
-use Rattle.record.proofs.Framed.{AllKnown, known-more, record-sound, record-size, sound-front, sound-record}
-use Rattle.record.proofs.Settled.{event-at-settled}
-use Rattle.appending.specs.declared.answer.Answer.the-variants.{Done}
-use Rattle.appending.specs.Append.{longer, appendOf}
-use Rattle.appending.specs.Empty.{emptyRecord, emptyOf}
-use Rattle.appending.proofs.Refusals.{append-roomy, append-done}
-use Rattle.read_back.specs.Written.{Written, begun, more}
 use Rattle.read_back.specs.Theorems.{ReadsBack, SoundExactlyWhenWritten, EarlierEventsStay}
+use Rattle.read_back.specs.Written.{Written, begun, more}
 use Rattle.read_back.proofs.Longer.{record-longer, longer-size, longer-sound}
 
 record Made (events : List Event) (bytes : List ℕ) : Type 0 where

@@ -1,16 +1,16 @@
 -- The reader of a record gives back what was written.
 use Prim.Native.Nat.{ℕ}
-use mathlib.Core.List.{List}
-use mathlib.Core.Path.{_≡_, refl, sym, subst, _∙_}
 use borrow.Author.Tests.{eq-eqb}
 use denote.Ref.{RefT, now}
-use Rattle.record.specs.declared.places.Step.{Step}
-use Rattle.record.specs.Record.{checkOf}
+use mathlib.Core.List.{List}
+use mathlib.Core.Path.{_≡_, refl, sym, subst, _∙_}
+use Rattle.reader.specs.declared.Reader.{Reader}
 use Rattle.record.specs.Place.{nextOf}
 use Rattle.record.specs.Reading.{Read, no-more as read-all, then as and-then}
-use Rattle.reader.specs.declared.Reader.{Reader}
-use Rattle.read_back.specs.Written.{Gives, no-more, then}
+use Rattle.record.specs.Record.{checkOf}
+use Rattle.record.specs.declared.places.Step.{Step}
 use Rattle.read_back.specs.Theorems.{ReaderGivesBack}
+use Rattle.read_back.specs.Written.{Gives, no-more, then}
 use Rattle.read_back.proofs.ReadBack.{reads-back}
 
 -- what a reader gives is read in turn from its place on

@@ -1,10 +1,10 @@
 -- What is proved of text and numbers beside the promises.
 use Prim.Native.Nat.{ℕ, _/_, _%_}
+use lib.Dec.{ltb}
+use lib.ListN.{length}
 use mathlib.Core.Bool.{cond}
 use mathlib.Core.List.{List, [], _∷_, _++_}
 use mathlib.Core.Path.{_≡_}
-use lib.Dec.{ltb}
-use lib.ListN.{length}
 use Rattle.lent.specs.Put.{Puts}
 use Rattle.text.specs.Text.{digitOf, decimalOf, meantBy}
 

@@ -1,9 +1,9 @@
 -- The invariant: putting the digits of the rest is all that is missing.
 use Prim.Native.Nat.{_+_, _<_}
-use mathlib.Core.Path.{_≡_, refl, _∙_}
-use native.Mathlib.Omega.{arith}
 use borrow.Author.Needs.{needs}
 use lib.ListN.{length, length-set}
+use mathlib.Core.Path.{_≡_, refl, _∙_}
+use native.Mathlib.Omega.{arith}
 use Rattle.lent.specs.Put.{putAt}
 use Rattle.text.specs.Text.{decimalOf}
 use Rattle.text.proofs.Decimal.{one-digit, more-digits, digits-from, digit-turn, digit-last}

@@ -1,6 +1,6 @@
 -- The digits are put, and then one byte behind them.
-use native.Mathlib.Omega.{arith}
 use borrow.Author.Needs.{needs}
+use native.Mathlib.Omega.{arith}
 use Rattle.lent.proofs.Placed.{puts-one, puts-then}
 use Rattle.text.proofs.put_number.Statement.{statement}
 use Rattle.text.proofs.put_number.Tie as tie
