@@ -2,11 +2,11 @@
 ghost use mathlib.Core.Path.{_≡_};
 ghost use Rattle.controller.specs.Part.{inRange, waited as waitedOf, counterStepped, shiftMoved};
 use super::Controller;
-use halves::Half;
-use halves::LineCount;
 use counters::LineMode;
 use counters::counter::Counter;
 use counters::shift::Shift;
+use halves::Half;
+use halves::LineCount;
 
 // N and F.
 pub struct Mode {

@@ -102,5 +102,9 @@ impl Half {
 pub fn answered(bus: LineCount, value: u8) -> u8
     ensures { λ r. ⌜ r ≡ answeredOn bus value ⌝ }
 {
-    if bus.is_four() { value % 16 * 16 } else { value }
+    if bus.is_four() {
+        value % 16 * 16
+    } else {
+        value
+    }
 }

@@ -1,13 +1,13 @@
 // The nine instructions: in a byte written with RS = 0 the highest bit that is set decides.
 ghost use mathlib.Core.Path.{_≡_};
 ghost use Rattle.instructions.specs.Instructions.{lineCount, lineMode, decode as decodeOf};
-use halves::LineCount;
 use controller::registers::Entry;
 use controller::registers::Lights;
 use controller::registers::Mode;
 use counters::LineMode;
 use counters::address::CharacterAddress;
 use counters::address::DisplayAddress;
+use halves::LineCount;
 
 pub enum Instruction {
     Nothing,

@@ -8,14 +8,14 @@ use super::instruction::Instruction;
 use controller::Controller;
 use controller::answer::Answer;
 use controller::effect::Effect;
-use halves::Half;
-use halves::LineCount;
 use controller::registers::Mode;
 use controller::registers::Registers;
 use counters::LineMode;
 use counters::address::DisplayAddress;
 use counters::counter::Counter;
 use counters::shift::Shift;
+use halves::Half;
+use halves::LineCount;
 
 // Address 00 of display memory and shift 0.
 fn homed(registers: Registers) -> Registers

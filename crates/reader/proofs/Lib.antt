@@ -1,2 +1,2 @@
-pub mod GivesBack
-pub mod Unique
+pub mod Settled
+pub mod Refused

@@ -1,10 +1,9 @@
 pub mod Meanings
 pub mod Encoded
-pub mod Runs
+pub mod FrontEvents
 pub mod Sound
 pub mod Standing
-pub mod Stored
 pub mod Framed
-pub mod Unique
-pub mod ReadBack
 pub mod InTurn
+pub mod Exactly
+pub mod Settled

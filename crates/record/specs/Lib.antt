@@ -1,9 +1,6 @@
 pub mod Event
+pub mod Answers
 pub mod Record
 pub mod Place
-pub mod Buffer
-pub mod Append
-pub mod Empty
-pub mod Settled
-pub mod Written
+pub mod Reading
 pub mod Theorems

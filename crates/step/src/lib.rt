@@ -61,12 +61,7 @@ fn act(
 }
 
 // What the first half of a byte answers: the upper half of the value read.
-fn upper_read(
-    display: &[u8; 80],
-    character: &[u8; 64],
-    registers: Registers,
-    kind: Kind,
-) -> u8
+fn upper_read(display: &[u8; 80], character: &[u8; 64], registers: Registers, kind: Kind) -> u8
     requires { ⌜ inRange registers ≡ true ⌝ }
     ensures { λ r. ⌜ r ≡ upper (readFrom (with (now (display .entry)) (now (character .entry)) registers) kind) * 16 ⌝ }
 {

@@ -1,18 +1,18 @@
 -- Laws of decimal digits.
-use Prim.Native.Nat.{ℕ, zero, suc, _+_, _*_, _-_, _/_, _%_, _^_, _≤_, _<_}
 use Prim.Native.Char.{code}
-use mathlib.Core.Path.{_≡_, refl, ap, _∙_}
-use mathlib.Core.Bool.{Bool, true, false, cond}
-use mathlib.Core.List.{List, [], _∷_, _++_}
-use native.Mathlib.Nat.{one-le-pow}
-use native.Mathlib.Omega.{arith}
+use Prim.Native.Nat.{ℕ, zero, suc, _+_, _*_, _-_, _/_, _%_, _^_, _≤_, _<_}
 use borrow.Author.Tests.{ltb-true, ltb-false, lt-ltb, le-ltb}
 use lib.Dec.{ltb}
 use lib.ListN.{length, set, length-append}
+use mathlib.Core.Bool.{Bool, true, false, cond}
+use mathlib.Core.List.{List, [], _∷_, _++_}
+use mathlib.Core.Path.{_≡_, refl, ap, _∙_}
+use native.Mathlib.Nat.{one-le-pow}
+use native.Mathlib.Omega.{arith}
+use Rattle.lent.proofs.Placed.{put-one, put-before}
+use Rattle.lent.specs.Put.{putAt}
 use Rattle.text.specs.Text.{digitOf, digitsOf, decimalOf, meantBy}
-use Rattle.text.specs.Put.{putAt}
 use Rattle.text.specs.Theorems.{DecimalRule, DecimalReadsBack}
-use Rattle.text.proofs.Placed.{put-one, put-before}
 
 -- a number below ten, or another
 by-size : (P : ℕ → Type 0) (n : ℕ) → (n < 10 → P n) → (10 ≤ n → P n) → P n
@@ -32,11 +32,11 @@ enough (suc k) (suc m) n h h′ =
     (λ small. simp (lt-ltb _ _ small))
     (λ large. simp (le-ltb _ _ large, enough k m (n / 10) (omega arith) (omega arith)))
 
-pub decimal-small : (n : ℕ) → n < 10 → decimalOf n ≡ digitOf n ∷ []
+decimal-small : (n : ℕ) → n < 10 → decimalOf n ≡ digitOf n ∷ []
 unfolding decimalOf digitsOf
 decimal-small n h = simp (lt-ltb _ _ h)
 
-pub decimal-large : (n : ℕ) → 10 ≤ n → decimalOf n ≡ decimalOf (n / 10) ++ (digitOf (n % 10) ∷ [])
+decimal-large : (n : ℕ) → 10 ≤ n → decimalOf n ≡ decimalOf (n / 10) ++ (digitOf (n % 10) ∷ [])
 unfolding decimalOf digitsOf
 decimal-large n h = simp (le-ltb _ _ h, enough n (suc (n / 10)) (n / 10) (omega arith) (omega arith))
 

@@ -1,6 +1,9 @@
--- What the promise of a call that puts bytes settles.
-use mathlib.Core.Path.{sym, _∙_}
-use Rattle.text.specs.Theorems.{PutSettled}
+-- Each promise is one equation, or two.
+use Rattle.condition.proofs.Settled.{settled}
+use Rattle.text.specs.Theorems.{PutSettled, DigitCountSettled}
 
 pub put-settled : PutSettled
-put-settled new place out r r′ left left′ p p′ = (p .next ∙ sym (p′ .next), p .buffer ∙ sym (p′ .buffer))
+put-settled new place out r r′ left left′ p p′ = (settled (p .next) (p′ .next), settled (p .buffer) (p′ .buffer))
+
+pub digit-count-settled : DigitCountSettled
+digit-count-settled n r r′ e e′ = settled e e′

@@ -1,10 +1,10 @@
 -- Text as its bytes, and numbers in decimal.
+use Prim.Native.Char.{code}
 use Prim.Native.Nat.{ℕ, zero, suc, _+_, _*_, _-_, _/_, _%_}
 use Prim.Native.String.{String, [] as none, _∷_ as _then_}
-use Prim.Native.Char.{code}
+use lib.Dec.{ltb}
 use mathlib.Core.Bool.{cond}
 use mathlib.Core.List.{List, [], _∷_, _++_}
-use lib.Dec.{ltb}
 
 -- the codes of the characters of a text
 abbrev pub textOf : String → List ℕ

@@ -1,15 +1,21 @@
--- What is proved beside the promises.
+-- What is proved of text and numbers beside the promises.
 use Prim.Native.Nat.{ℕ, _/_, _%_}
+use lib.Dec.{ltb}
+use lib.ListN.{length}
 use mathlib.Core.Bool.{cond}
 use mathlib.Core.List.{List, [], _∷_, _++_}
 use mathlib.Core.Path.{_≡_}
-use lib.Dec.{ltb}
+use Rattle.lent.specs.Put.{Puts}
 use Rattle.text.specs.Text.{digitOf, decimalOf, meantBy}
-use Rattle.text.specs.Put.{Puts}
 
--- any two outcomes of a call that puts bytes are equal
+-- ---- any two outcomes that a promise allows are equal
+
+-- for each call that puts bytes
 abbrev pub PutSettled : Type 0
 PutSettled = (new : List ℕ) (place : ℕ) (out : List ℕ) (r r′ : ℕ) (left left′ : List ℕ) → Puts new place out r left → Puts new place out r′ left′ → (r ≡ r′) × (left ≡ left′)
+
+abbrev pub DigitCountSettled : Type 0
+DigitCountSettled = (n r r′ : ℕ) → r ≡ length (decimalOf n) → r′ ≡ length (decimalOf n) → r ≡ r′
 
 -- ---- decimal
 

@@ -1,4 +1,4 @@
--- `digit_count` meets its contract.
+-- Each bound tells how many digits there are.
 use mathlib.Core.Path.{sym}
 use native.Mathlib.Omega.{arith}
 use Rattle.text.proofs.Decimal.{one-digit, digits-are}

@@ -1,9 +1,9 @@
--- `put_refused` meets its contract.
+-- The word is put, and then the number behind it.
 use borrow.Author.Needs.{needs}
 use native.Mathlib.Omega.{arith}
+use Rattle.lent.proofs.Placed.{puts-then}
 use Rattle.text.specs.Text.{refusedOf}
 use Rattle.text.proofs.Decimal.{digits-below}
-use Rattle.text.proofs.Placed.{puts-then}
 use Rattle.text.proofs.put_refused.Statement.{statement}
 use Rattle.text.proofs.put_refused.Tie as tie
 
@@ -14,14 +14,19 @@ put-text-requires : tie.Need-put-text-requires
 put-text-requires c κs = search needs
 
 put-number-requires : tie.Need-put-number-requires
-put-number-requires c κs = omega (arith, digits-below 2 (c .before .before .before .before .before .before .before .args .number) (omega arith))
+put-number-requires c κs =
+    let word = c .before .before .before .before in
+    omega (arith, digits-below 2 (word .before .before .before .args .number) (omega arith))
 
 same-length : tie.Need-same-length
 same-length c = search needs
 
 returns : tie.Need-returns
 unfolding refusedOf
-returns c = puts-then _ _ _ _ _ _ _ _ (omega arith) (c .before .before .before .before .before .before .put-text .ensures) (c .before .before .put-number .ensures)
+returns c =
+    let number = c .before .before in
+    let word = number .before .before .before .before in
+    puts-then _ _ _ _ _ _ _ _ (omega arith) (word .put-text .ensures) (number .put-number .ensures)
 
 pub put-refused-spec : {M : Type 1} → statement M
 put-refused-spec =

@@ -1,10 +1,10 @@
--- `put_text` meets its contract. The invariant: the first i bytes of the text are put.
+-- The invariant: the first i bytes of the text are put.
 use Prim.Native.Nat.{_-_, _≤_}
+use lib.ListN.{length, take, length-set}
 use mathlib.Core.Path.{_≡_, refl}
 use native.Mathlib.Omega.{arith}
-use lib.ListN.{length, take, length-set}
-use Rattle.text.specs.Put.{putAt}
-use Rattle.text.proofs.Placed.{put-turn, put-all, put-none}
+use Rattle.lent.proofs.Placed.{put-turn, put-all, put-none}
+use Rattle.lent.specs.Put.{putAt}
 use Rattle.text.proofs.put_text.Statement.{statement}
 use Rattle.text.proofs.put_text.Tie as tie
 

@@ -1,0 +1,1 @@
+// A bench record reads back as it was written. Definitions and theorems only.
