@@ -18,7 +18,7 @@ use Rattle.record.specs.declared.empty_record.Emptied.the-variants.{Done
 use Rattle.record.specs.Event.{eventOf, isNone, rawOf, Fits, wordOf, bytesOf}
 use Rattle.record.specs.Record.{framed, bodyOf, recordOf, threeAt, runIn, eventsOf, checkOf}
 use Rattle.record.specs.Place.{eventAt, nextOf, Stands}
-use Rattle.record.specs.Buffer.{over, unlessRefused}
+use Rattle.lent.proofs.Left.{front-and-rest}
 use Rattle.record.specs.Append.{longer, appendOf}
 use Rattle.record.specs.Empty.{emptyRecord, emptyOf}
 use Rattle.record.specs.Written.{AllFit, Written, begun, more, Read, no-more, then, givenFrom}
@@ -30,14 +30,6 @@ use Rattle.record.proofs.Sound.{sound, append-roomy, append-done}
 use Rattle.record.proofs.Standing.{stands-end, stands-some}
 use Rattle.record.proofs.Framed.{AllKnown, known-more, record-sound, record-size, record-longer, longer-size, sound-run, sound-record, longer-sound}
 use Rattle.record.proofs.Unique.{event-at-settled}
-
--- ---- what a call that is not refused leaves
-
-front-and-rest : (answer n : ℕ) (new out left : List ℕ) → left ≡ unlessRefused answer new out → answer ≡ 0 → length new ≡ n → (take n left ≡ new) × (drop n left ≡ drop n out)
-unfolding unlessRefused over
-front-and-rest answer n new out left e done size =
-    let whole : left ≡ new ++ drop n out = e ∙ simp (eq-eqb _ _ done, size) in
-    (ap (take n) whole ∙ take-at new (drop n out) n size, ap (drop n) whole ∙ drop-at new (drop n out) n size)
 
 record Made (events : List Event) (bytes : List ℕ) : Type 0 where
   same : bytes ≡ recordOf events
@@ -95,13 +87,13 @@ read-on bytes place (event ∷ events) e behind-head third within all =
     then (event-there bytes place event (bodyOf events) e behind-head third (all .0)) (read-on bytes (place + 3) events behind (omega arith) (omega arith) within′ (all .1))
 
 -- as many answers from a place are the same answers
-read-same : {bytes : List ℕ} {place : ℕ} {answers answerbytes′ : List Step} → Read bytes place answers → Read bytes place answerbytes′ → length answers ≡ length answerbytes′ → answers ≡ answerbytes′
+read-same : {bytes : List ℕ} {place : ℕ} {answers answers′ : List Step} → Read bytes place answers → Read bytes place answers′ → length answers ≡ length answers′ → answers ≡ answers′
 read-same no-more no-more size = refl
-read-same no-more (then standbytes′ rest′) size = absurd (omega arith)
+read-same no-more (then stands′ rest′) size = absurd (omega arith)
 read-same (then stands rest) no-more size = absurd (omega arith)
-read-same {bytes} {place} (then {r = r} {answers = answers} stands rest) (then {r = r′} {answers = answerbytes′} standbytes′ rest′) size =
-    let same : r ≡ r′ = event-at-settled bytes place r r′ stands standbytes′ in
-    let on : Read bytes (nextOf r place) answerbytes′ = subst (λ (t : Step). Read bytes (nextOf t place) answerbytes′) (sym same) rest′ in
+read-same {bytes} {place} (then {r = r} {answers = answers} stands rest) (then {r = r′} {answers = answers′} stands′ rest′) size =
+    let same : r ≡ r′ = event-at-settled bytes place r r′ stands stands′ in
+    let on : Read bytes (nextOf r place) answers′ = subst (λ (t : Step). Read bytes (nextOf t place) answers′) (sym same) rest′ in
     ap (λ (t : Step). t ∷ answers) same ∙ ap (λ (l : List Step). r′ ∷ l) (read-same rest on (omega arith))
 
 given-size : (place : ℕ) (events : List Event) → length (givenFrom place events) ≡ suc (length events)

@@ -1,7 +1,6 @@
 pub mod Event
 pub mod Record
 pub mod Place
-pub mod Buffer
 pub mod Append
 pub mod Empty
 pub mod Settled

@@ -10,9 +10,9 @@ use borrow.Author.Tests.{ltb-true, ltb-false, lt-ltb, le-ltb}
 use lib.Dec.{ltb}
 use lib.ListN.{length, set, length-append}
 use Rattle.text.specs.Text.{digitOf, digitsOf, decimalOf, meantBy}
-use Rattle.text.specs.Put.{putAt}
+use Rattle.lent.specs.Put.{putAt}
 use Rattle.text.specs.Theorems.{DecimalRule, DecimalReadsBack}
-use Rattle.text.proofs.Placed.{put-one, put-before}
+use Rattle.lent.proofs.Placed.{put-one, put-before}
 
 -- a number below ten, or another
 by-size : (P : ℕ → Type 0) (n : ℕ) → (n < 10 → P n) → (10 ≤ n → P n) → P n

@@ -1,3 +1,2 @@
-pub mod Placed
 pub mod Decimal
 pub mod Settled

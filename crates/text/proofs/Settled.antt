@@ -1,6 +1,6 @@
--- What the promise of a call that puts bytes settles.
-use mathlib.Core.Path.{sym, _∙_}
+-- A call that puts bytes is settled by its two equations.
+use Rattle.condition.proofs.Settled.{settled}
 use Rattle.text.specs.Theorems.{PutSettled}
 
 pub put-settled : PutSettled
-put-settled new place out r r′ left left′ p p′ = (p .next ∙ sym (p′ .next), p .buffer ∙ sym (p′ .buffer))
+put-settled new place out r r′ left left′ p p′ = (settled (p .next) (p′ .next), settled (p .buffer) (p′ .buffer))

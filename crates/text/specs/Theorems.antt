@@ -5,7 +5,7 @@ use mathlib.Core.List.{List, [], _∷_, _++_}
 use mathlib.Core.Path.{_≡_}
 use lib.Dec.{ltb}
 use Rattle.text.specs.Text.{digitOf, decimalOf, meantBy}
-use Rattle.text.specs.Put.{Puts}
+use Rattle.lent.specs.Put.{Puts}
 
 -- any two outcomes of a call that puts bytes are equal
 abbrev pub PutSettled : Type 0

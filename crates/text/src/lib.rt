@@ -3,7 +3,7 @@ ghost use mathlib.Core.Path.{_≡_};
 ghost use Prim.Native.Nat.{_+_, _%_, _≤_, _<_};
 ghost use mathlib.Core.List.{_++_, _∷_, []};
 ghost use lib.ListN.{length};
-ghost use Rattle.text.specs.Put.{Puts};
+ghost use Rattle.lent.specs.Put.{Puts};
 ghost use Rattle.text.specs.Text.{digitOf, decimalOf, refusedOf};
 
 // All bytes of a text.

@@ -5,7 +5,7 @@ use native.Mathlib.Omega.{arith}
 use borrow.Author.Needs.{needs}
 use lib.ListN.{length, length-set}
 use Rattle.text.specs.Text.{decimalOf}
-use Rattle.text.specs.Put.{putAt}
+use Rattle.lent.specs.Put.{putAt}
 use Rattle.text.proofs.Decimal.{one-digit, more-digits, digits-from, digit-turn, digit-last}
 use Rattle.text.proofs.put_decimal.Statement.{statement}
 use Rattle.text.proofs.put_decimal.Tie as tie

@@ -1,7 +1,7 @@
 -- `put_number` meets its contract.
 use native.Mathlib.Omega.{arith}
 use borrow.Author.Needs.{needs}
-use Rattle.text.proofs.Placed.{puts-one, puts-then}
+use Rattle.lent.proofs.Placed.{puts-one, puts-then}
 use Rattle.text.proofs.put_number.Statement.{statement}
 use Rattle.text.proofs.put_number.Tie as tie
 

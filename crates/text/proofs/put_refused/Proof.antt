@@ -3,7 +3,7 @@ use borrow.Author.Needs.{needs}
 use native.Mathlib.Omega.{arith}
 use Rattle.text.specs.Text.{refusedOf}
 use Rattle.text.proofs.Decimal.{digits-below}
-use Rattle.text.proofs.Placed.{puts-then}
+use Rattle.lent.proofs.Placed.{puts-then}
 use Rattle.text.proofs.put_refused.Statement.{statement}
 use Rattle.text.proofs.put_refused.Tie as tie
 

@@ -6,7 +6,7 @@ use native.Mathlib.Numerals.{add-one}
 use native.Mathlib.Omega.{arith}
 use lib.ListN.{length, take, drop, set, getD, length-append, length-take, length-drop, take-append-drop}
 use lib.Seq.{take-append-seam, drop-append-add, drop-at, drop-drop, take-set-le, set-split, length-take-le, take-suc, take-all}
-use Rattle.text.specs.Put.{putAt, Puts}
+use Rattle.lent.specs.Put.{putAt, Puts}
 
 pub put-length : (place : ℕ) (new out : List ℕ) → place + length new ≤ length out → length (putAt place new out) ≡ length out
 unfolding putAt

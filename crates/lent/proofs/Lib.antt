@@ -1,0 +1,5 @@
+pub mod Left
+pub mod Stored
+pub mod Placed
+pub mod Returned
+pub mod Lists

@@ -1,0 +1,1 @@
+// Lent buffers: what a call leaves in one. Definitions and laws only.
