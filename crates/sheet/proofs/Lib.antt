@@ -1,4 +1,3 @@
-pub mod Placed
 pub mod Rows
 pub mod Sheets
 pub mod Promise

@@ -6,7 +6,7 @@ use mathlib.Core.List.{List, _++_}
 use lib.Dec.{eqb}
 use lib.ListN.{length, drop}
 use Rattle.controller.specs.declared.registers.Mode.{Mode}
-use Rattle.picture.specs.Table.{over}
+use Rattle.lent.specs.Buffer.{over}
 use Rattle.sheet.specs.declared.Answer.{Answer}
 use Rattle.sheet.specs.declared.Answer.the-variants.{Done}
 use Rattle.sheet.specs.declared.Form.{Form}

@@ -7,8 +7,8 @@ use native.Mathlib.Numerals.{add-one}
 use native.Mathlib.Omega.{arith}
 use lib.ListN.{length, getD, set, replicate}
 use lib.Seq.{drop-cons, drop-length, set-at}
-use Rattle.picture.specs.Table.{table}
-use Rattle.picture.proofs.Lists.{length-table, Filled}
+use Rattle.lent.specs.Lists.{values}
+use Rattle.lent.proofs.Lists.{length-values, Filled}
 use Rattle.sheet.specs.Row.{packed, imageRow}
 
 -- ---- bits
@@ -26,11 +26,11 @@ packed-next bit byte b n e h = rw (add-one, e, h)
 
 -- ---- marks
 -- a byte behind the n values that a buffer has taken, where it has room for no more
-pub table-end : (f : ℕ → ℕ) (d out : List ℕ) (k n v : ℕ) → Filled f d out k → k ≡ n → length d ≡ n + 1 → set out n v ≡ table n f ++ (v ∷ [])
-table-end f d out k n v t e l =
+pub values-end : (f : ℕ → ℕ) (d out : List ℕ) (k n v : ℕ) → Filled f d out k → k ≡ n → length d ≡ n + 1 → set out n v ≡ values n f ++ (v ∷ [])
+values-end f d out k n v t e l =
     let room : n < length d = omega arith in
     let whole : suc n ≡ length d = omega arith in
-    rw (t .2, e, drop-cons d n 0, whole, drop-length) (set-at (table n f) _ [] v n (length-table n f))
+    rw (t .2, e, drop-cons d n 0, whole, drop-length) (set-at (values n f) _ [] v n (length-values n f))
 
 -- ---- a blank row
 pub set-only : (out : List ℕ) (v : ℕ) → length out ≡ 1 → set out 0 v ≡ v ∷ []

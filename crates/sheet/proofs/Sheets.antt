@@ -8,8 +8,8 @@ use lib.Seq.{take-length, getD-drop}
 use Rattle.counters.specs.declared.LineMode.{LineMode}
 use Rattle.counters.specs.declared.LineMode.the-variants.{One, Two}
 use Rattle.controller.specs.declared.registers.Mode.{Mode}
-use Rattle.picture.specs.Picture.{rowsOf}
-use Rattle.picture.proofs.Lists.{length-parts, length-table}
+use Rattle.size.specs.Size.{rowsOf}
+use Rattle.lent.proofs.Lists.{length-parts, length-values}
 use Rattle.sheet.specs.declared.Form.{Form}
 use Rattle.sheet.specs.declared.Form.the-variants.{Text, Image}
 use Rattle.text.specs.Text.{decimalOf}
@@ -24,13 +24,13 @@ length-head width height = simp length-append (omega arith)
 
 pub length-row : (form : Form) (digits : ℕ) (byte : ℕ → ℕ) → 1 ≤ digits → length (rowIn form digits byte) ≡ rowSize form digits
 unfolding rowIn rowSize textRow imageRow
-length-row Text digits byte h = simp (length-append, length-table) (omega arith)
-length-row Image digits byte h = length-table _ _
+length-row Text digits byte h = simp (length-append, length-values) (omega arith)
+length-row Image digits byte h = length-values _ _
 
 pub length-gap : (form : Form) (digits : ℕ) → length (gapIn form digits) ≡ gapSize form digits
 unfolding gapIn gapSize rowSize imageRow
 length-gap Text digits = refl
-length-gap Image digits = length-table _ _
+length-gap Image digits = length-values _ _
 
 pub length-line : (form : Form) (rows digits : ℕ) (dots : List ℕ) (line : ℕ) → 1 ≤ digits → length (lineIn form rows digits dots line) ≡ rows * rowSize form digits
 unfolding lineIn

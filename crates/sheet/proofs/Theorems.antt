@@ -9,8 +9,7 @@ use Rattle.counters.specs.declared.LineMode.{LineMode}
 use Rattle.counters.specs.declared.LineMode.the-variants.{One, Two}
 use Rattle.controller.specs.declared.registers.Mode.{Mode}
 use Rattle.text.proofs.Decimal.{digits-below}
-use Rattle.picture.specs.Digit.{linesOf, mostDigits}
-use Rattle.picture.specs.Picture.{rowsIn}
+use Rattle.size.specs.Size.{linesOf, mostDigits, rowsIn}
 use Rattle.sheet.specs.declared.Answer.{Answer}
 use Rattle.sheet.specs.declared.Answer.the-variants.{Done, Digits, Short}
 use Rattle.sheet.specs.declared.Form.{Form}
@@ -20,7 +19,7 @@ use Rattle.sheet.specs.Sheet.{heightOf, headOf}
 use Rattle.sheet.specs.Size.{rowSize, gapSize, linesSize, sizeOf}
 use Rattle.sheet.specs.Answers.{numberOf, countOf}
 use Rattle.sheet.specs.Claims.{OneOutcome, AtMost}
-use Rattle.picture.proofs.Promise.{digits-counted}
+use Rattle.size.proofs.Sizes.{digits-counted}
 use Rattle.sheet.proofs.Sheets.{length-head, length-sheet}
 
 -- ---- one outcome

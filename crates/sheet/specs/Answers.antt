@@ -6,9 +6,8 @@ use mathlib.Core.List.{List, []}
 use lib.Dec.{leb, eqb}
 use lib.ListN.{length}
 use Rattle.controller.specs.declared.registers.Mode.{Mode}
-use Rattle.picture.specs.Table.{over}
-use Rattle.picture.specs.Picture.{bytesOf}
-use Rattle.picture.specs.Answers.{hasDigits}
+use Rattle.lent.specs.Buffer.{over}
+use Rattle.size.specs.Size.{bytesOf, hasDigits}
 use Rattle.sheet.specs.declared.Answer.{Answer}
 use Rattle.sheet.specs.declared.Answer.the-variants.{Done, Digits, Short}
 use Rattle.sheet.specs.declared.Form.{Form}

@@ -7,7 +7,7 @@ use lib.ListN.{length}
 use Rattle.controller.specs.declared.registers.Mode.{Mode}
 use Rattle.sheet.specs.declared.Answer.{Answer}
 use Rattle.sheet.specs.declared.Form.{Form}
-use Rattle.picture.specs.Answers.{hasDigits}
+use Rattle.size.specs.Size.{hasDigits}
 use Rattle.sheet.specs.Sheet.{sheetOf}
 use Rattle.sheet.specs.Answers.{Drawn}
 

@@ -4,7 +4,7 @@ use Prim.Native.Char.{code}
 use mathlib.Core.Bool.{Bool, cond, _&&_}
 use mathlib.Core.List.{List, _++_}
 use lib.Dec.{ltb, eqb}
-use Rattle.picture.specs.Table.{table}
+use Rattle.lent.specs.Lists.{values}
 use Rattle.text.specs.Text.{textOf}
 
 abbrev pub widthOf : ℕ → ℕ
@@ -22,7 +22,7 @@ markOf byte column = cond (ltb column 5) (cond (isOn byte column) (code "#") (co
 
 -- one line of output, LF at its end
 unfoldable pub textRow : (digits : ℕ) (byte : ℕ → ℕ) → List ℕ
-textRow digits byte = table (widthOf digits) (λ x. markOf (byte (x / 6)) (x % 6)) ++ textOf "\n"
+textRow digits byte = values (widthOf digits) (λ x. markOf (byte (x / 6)) (x % 6)) ++ textOf "\n"
 
 -- ---- image
 
@@ -37,4 +37,4 @@ packed (suc n) bit = 2 * packed n bit + bit n
 
 -- padded to whole bytes, leftmost dot in the highest bit
 unfoldable pub imageRow : (digits : ℕ) (byte : ℕ → ℕ) → List ℕ
-imageRow digits byte = table ((widthOf digits + 7) / 8) (λ k. packed 8 (λ n. bitAt digits byte (8 * k + n)))
+imageRow digits byte = values ((widthOf digits + 7) / 8) (λ k. packed 8 (λ n. bitAt digits byte (8 * k + n)))

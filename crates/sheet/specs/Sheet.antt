@@ -5,9 +5,8 @@ use lib.ListN.{getD}
 use Rattle.counters.specs.declared.LineMode.{LineMode}
 use Rattle.counters.specs.declared.LineMode.the-variants.{One, Two}
 use Rattle.controller.specs.declared.registers.Mode.{Mode}
-use Rattle.picture.specs.Digit.{linesOf}
-use Rattle.picture.specs.Table.{parts}
-use Rattle.picture.specs.Picture.{rowsOf}
+use Rattle.size.specs.Size.{linesOf, rowsOf}
+use Rattle.lent.specs.Lists.{parts}
 use Rattle.sheet.specs.declared.Form.{Form}
 use Rattle.sheet.specs.declared.Form.the-variants.{Text, Image}
 use Rattle.text.specs.Text.{textOf, decimalOf}

@@ -4,7 +4,7 @@ use lib.ListN.{length}
 use Rattle.counters.specs.declared.LineMode.{LineMode}
 use Rattle.counters.specs.declared.LineMode.the-variants.{One, Two}
 use Rattle.controller.specs.declared.registers.Mode.{Mode}
-use Rattle.picture.specs.Picture.{rowsOf}
+use Rattle.size.specs.Size.{rowsOf}
 use Rattle.sheet.specs.declared.Form.{Form}
 use Rattle.sheet.specs.declared.Form.the-variants.{Text, Image}
 use Rattle.sheet.specs.Row.{widthOf}

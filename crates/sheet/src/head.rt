@@ -1,7 +1,7 @@
 // What an image starts with.
 ghost use Prim.Native.Nat.{_≤_};
 ghost use lib.ListN.{length};
-ghost use Rattle.text.specs.Put.{Puts};
+ghost use Rattle.lent.specs.Put.{Puts};
 ghost use Rattle.sheet.specs.Sheet.{headOf};
 use super::Form;
 use text::put_number;

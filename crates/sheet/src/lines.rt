@@ -3,7 +3,7 @@ ghost use mathlib.Core.Path.{_≡_};
 ghost use Prim.Native.Nat.{_+_, _*_, _≤_};
 ghost use lib.ListN.{length};
 ghost use Rattle.counters.specs.declared.LineMode.the-variants.{Two};
-ghost use Rattle.picture.specs.Picture.{rowsOf, bytesOf};
+ghost use Rattle.size.specs.Size.{rowsOf, bytesOf};
 ghost use Rattle.sheet.specs.Sheet.{gapIn, between, lineIn, sheetOf};
 ghost use Rattle.sheet.specs.Size.{rowSize, gapSize, linesSize, sizeOf};
 use super::Form;

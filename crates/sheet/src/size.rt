@@ -2,7 +2,7 @@
 ghost use mathlib.Core.Path.{_≡_};
 ghost use Prim.Native.Nat.{_*_, _≤_, _<_};
 ghost use lib.ListN.{length};
-ghost use Rattle.picture.specs.Picture.{rowsOf};
+ghost use Rattle.size.specs.Size.{rowsOf};
 ghost use Rattle.sheet.specs.Sheet.{heightOf, headOf};
 ghost use Rattle.sheet.specs.Size.{rowSize, gapSize, linesSize, sizeOf};
 use super::Form;

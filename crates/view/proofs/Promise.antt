@@ -9,9 +9,9 @@ use borrow.Author.Tests.{lt-ltb, le-ltb}
 use lib.Dec.{eqb}
 use lib.ListN.{length, drop, length-append}
 use lib.Seq.{take-append-seam}
-use Rattle.text.specs.Put.{putAt, Puts}
-use Rattle.picture.specs.declared.Phase.{Phase}
-use Rattle.picture.specs.Table.{over}
+use Rattle.lent.specs.Put.{putAt, Puts}
+use Rattle.dots.specs.declared.Phase.{Phase}
+use Rattle.lent.specs.Buffer.{over}
 use Rattle.sheet.specs.declared.Form.{Form}
 use Rattle.view.specs.declared.Answer.{Answer}
 use Rattle.view.specs.declared.Answer.the-variants.{Done, Short}

@@ -15,14 +15,14 @@ use Rattle.controller.specs.declared.Controller.{Controller}
 use Rattle.controller.specs.declared.registers.Mode.{Mode}
 use Rattle.controller.specs.Part.{inRange}
 use Rattle.text.specs.Text.{refusedOf}
-use Rattle.text.specs.Put.{putAt, Puts}
-use Rattle.picture.specs.declared.Phase.{Phase}
-use Rattle.picture.specs.Digit.{linesOf, mostDigits}
-use Rattle.picture.specs.Table.{over}
-use Rattle.picture.specs.Picture.{rowsIn, bytesOf, pictureOf}
-use Rattle.picture.specs.Answers.{hasDigits, answerFor, bufferFor}
-use Rattle.picture.proofs.Dots.{length-picture}
-use Rattle.picture.proofs.Promise.{digits-counted}
+use Rattle.lent.specs.Put.{putAt, Puts}
+use Rattle.dots.specs.declared.Phase.{Phase}
+use Rattle.size.specs.Size.{linesOf, mostDigits, rowsIn, bytesOf, hasDigits}
+use Rattle.lent.specs.Buffer.{over}
+use Rattle.picture.specs.Picture.{pictureOf}
+use Rattle.picture.specs.Answers.{answerFor, bufferFor}
+use Rattle.picture.proofs.Lines.{length-picture}
+use Rattle.size.proofs.Sizes.{digits-counted}
 use Rattle.sheet.specs.declared.Answer.{Answer}
 use Rattle.sheet.specs.declared.Form.{Form}
 use Rattle.sheet.specs.Sheet.{sheetOf}

@@ -13,7 +13,7 @@ use Rattle.bus.proofs.Range.{reached-in-range}
 use Rattle.record.specs.Record.{eventsOf, checkOf}
 use Rattle.run.specs.declared.Ran.{Ran}
 use Rattle.run.specs.Run.{eventOn, ranOf, Running}
-use Rattle.picture.specs.declared.Phase.{Phase}
+use Rattle.dots.specs.declared.Phase.{Phase}
 use Rattle.sheet.specs.declared.Form.{Form}
 use Rattle.view.specs.View.{shownOf, viewOf}
 

@@ -5,8 +5,8 @@ use mathlib.Core.Bool.{cond}
 use mathlib.Core.List.{List, []}
 use lib.Dec.{ltb, eqb}
 use lib.ListN.{length}
-use Rattle.picture.specs.declared.Phase.{Phase}
-use Rattle.picture.specs.Table.{over}
+use Rattle.dots.specs.declared.Phase.{Phase}
+use Rattle.lent.specs.Buffer.{over}
 use Rattle.sheet.specs.declared.Form.{Form}
 use Rattle.view.specs.declared.Answer.{Answer}
 use Rattle.view.specs.declared.Answer.the-variants.{Done, Short}

@@ -9,9 +9,9 @@ use Rattle.controller.specs.declared.Controller.{Controller}
 use Rattle.controller.specs.Part.{switchedOn}
 use Rattle.record.specs.Record.{eventsOf, checkOf}
 use Rattle.run.specs.Run.{ranOf}
-use Rattle.picture.specs.declared.Phase.{Phase}
+use Rattle.dots.specs.declared.Phase.{Phase}
 use Rattle.picture.specs.Picture.{pictureOf}
-use Rattle.picture.specs.Answers.{hasDigits}
+use Rattle.size.specs.Size.{hasDigits}
 use Rattle.sheet.specs.declared.Form.{Form}
 use Rattle.sheet.specs.Sheet.{sheetOf}
 

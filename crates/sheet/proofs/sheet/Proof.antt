@@ -5,11 +5,11 @@ use borrow.Author.Tests.{not-true, not-false, le-leb, lt-leb}
 use lib.ListN.{length}
 use lib.Seq.{length-take-le}
 use denote.Ref.{now}
-use Rattle.picture.specs.Answers.{hasDigits}
+use Rattle.size.specs.Size.{hasDigits}
 use Rattle.sheet.specs.Sheet.{sheetOf}
 use Rattle.sheet.specs.Answers.{answerFor}
 use Rattle.sheet.proofs.Promise.{refused, drawn}
-use Rattle.picture.proofs.Promise.{digits-counted}
+use Rattle.size.proofs.Sizes.{digits-counted}
 use Rattle.sheet.proofs.Sheets.{length-sheet}
 use Rattle.sheet.proofs.sheet.Statement.{statement}
 use Rattle.sheet.proofs.sheet.Tie as tie

@@ -5,8 +5,8 @@ use native.Mathlib.Omega.{arith}
 use lib.ListN.{length, length-append}
 use denote.Ref.{now}
 use Rattle.text.specs.Text.{decimalOf}
-use Rattle.text.specs.Put.{putAt}
-use Rattle.text.proofs.Placed.{puts-then}
+use Rattle.lent.specs.Put.{putAt}
+use Rattle.lent.proofs.Placed.{puts-then}
 use Rattle.sheet.specs.declared.Form.the-variants.{Image}
 use Rattle.sheet.specs.Sheet.{headOf}
 use Rattle.sheet.proofs.Sheets.{length-head}

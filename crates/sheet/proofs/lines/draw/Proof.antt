@@ -4,10 +4,10 @@ use mathlib.Core.Path.{_≡_}
 use native.Mathlib.Omega.{arith}
 use lib.ListN.{length, length-drop}
 use denote.Ref.{now}
-use Rattle.picture.specs.Picture.{rowsOf}
+use Rattle.size.specs.Size.{rowsOf}
 use Rattle.sheet.specs.Sheet.{headOf, sheetOf}
 use Rattle.sheet.specs.Size.{rowSize, gapSize, linesSize, sizeOf}
-use Rattle.sheet.proofs.Placed.{behind-put}
+use Rattle.lent.proofs.Returned.{behind-put}
 use Rattle.sheet.proofs.Sheets.{rest-lent}
 use Rattle.sheet.proofs.lines.draw.Statement.{statement}
 use Rattle.sheet.proofs.lines.draw.Tie as tie

@@ -6,7 +6,7 @@ use native.Mathlib.Omega.{arith}
 use lib.ListN.{length, getD, length-drop}
 use denote.Ref.{now}
 use borrow.Author.Needs.{needs}
-use Rattle.picture.proofs.Lists.{length-lent, Taken, taken-start, taken-next, taken-whole}
+use Rattle.lent.proofs.Lists.{length-lent, Taken, taken-start, taken-next, taken-whole}
 use Rattle.sheet.specs.Sheet.{rowIn, lineIn}
 use Rattle.sheet.proofs.Sheets.{length-row, rest-lent, row-from}
 use Rattle.sheet.proofs.lines.draw_line.Statement.{statement}

@@ -3,7 +3,7 @@ use Prim.Native.Nat.{_*_, _≤_}
 use native.Mathlib.Nat.{zero-mul, zero-add, one-mul, mul-assoc}
 use lib.ListN.{length}
 use denote.Ref.{now}
-use Rattle.picture.specs.Digit.{linesOf}
+use Rattle.size.specs.Size.{linesOf}
 use Rattle.sheet.specs.Sheet.{between}
 use Rattle.sheet.specs.Size.{linesSize}
 use Rattle.sheet.proofs.lines.draw_lines.Statement.{statement}

@@ -7,7 +7,7 @@ use lib.ListN.{length, length-drop}
 use lib.Seq.{length-take-le}
 use denote.Ref.{now}
 use Rattle.sheet.specs.Sheet.{between}
-use Rattle.sheet.proofs.Placed.{three-put}
+use Rattle.lent.proofs.Returned.{three-put}
 use Rattle.sheet.proofs.Sheets.{length-gap, length-line, rest-lent}
 use Rattle.sheet.proofs.lines.draw_two.Statement.{statement}
 use Rattle.sheet.proofs.lines.draw_two.Tie as tie

@@ -1,7 +1,7 @@
 use Prim.Native.Nat.{_+_, _*_, _-_}
 use lib.ListN.{length, getD}
 use borrow.Author.Needs.{needs}
-use Rattle.picture.proofs.Lists.{Filled, filled-start, filled-next, filled-whole}
+use Rattle.lent.proofs.Lists.{Filled, filled-start, filled-next, filled-whole}
 use Rattle.sheet.specs.Row.{bitAt, packed, imageRow}
 use Rattle.sheet.proofs.row.draw_bits.Statement.{statement}
 use Rattle.sheet.proofs.row.draw_bits.Tie as tie

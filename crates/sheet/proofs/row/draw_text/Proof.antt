@@ -2,9 +2,9 @@ use Prim.Native.Nat.{_-_, _/_, _%_, _≤_}
 use native.Mathlib.Nat.{le-antisymm}
 use lib.ListN.{getD, length-set}
 use borrow.Author.Needs.{needs}
-use Rattle.picture.proofs.Lists.{Filled, filled-start, filled-next}
+use Rattle.lent.proofs.Lists.{Filled, filled-start, filled-next}
 use Rattle.sheet.specs.Row.{markOf, textRow}
-use Rattle.sheet.proofs.Rows.{table-end}
+use Rattle.sheet.proofs.Rows.{values-end}
 use Rattle.sheet.proofs.row.draw_text.Statement.{statement}
 use Rattle.sheet.proofs.row.draw_text.Tie as tie
 
@@ -46,7 +46,7 @@ same-length c = simp length-set (c .before .loop .inv .1 .1)
 
 returns : tie.Need-returns Inv-loop μ-loop
 unfolding textRow
-returns c = rw (← c .before .before .width .ensures .0) (table-end _ _ _ _ _ _ (c .before .loop .inv .1) (le-antisymm (c .before .loop .inv .0) (c .loop-test .left)) (search needs))
+returns c = rw (← c .before .before .width .ensures .0) (values-end _ _ _ _ _ _ (c .before .loop .inv .1) (le-antisymm (c .before .loop .inv .0) (c .loop-test .left)) (search needs))
 
 pub draw-text-spec : {M : Type 1} → statement M
 draw-text-spec =

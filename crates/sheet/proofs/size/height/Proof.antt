@@ -1,6 +1,6 @@
 use borrow.Author.Needs.{needs}
 use native.Mathlib.Omega.{arith}
-use Rattle.picture.specs.Digit.{linesOf}
+use Rattle.size.specs.Size.{linesOf}
 use Rattle.sheet.proofs.size.height.Statement.{statement}
 use Rattle.sheet.proofs.size.height.Tie as tie
 
