@@ -1,12 +1,12 @@
 -- The theorems about the picture: from its bytes by index, and from what its dots depend on.
 use Prim.Native.Nat.{ℕ, zero, suc, _+_, _*_, _-_, _<_, _≤_}
 use mathlib.Core.Path.{_≡_, refl, ap, sym, _∙_}
-use mathlib.Core.Bool.{Bool, true, false, cond, not}
+use mathlib.Core.Bool.{Bool, true, false, cond, _&&_, not}
 use mathlib.Core.List.{List, [], _∷_, _++_}
 use native.Mathlib.Nat.{mul-assoc, add-mul, add-assoc}
 use native.Mathlib.Omega.{arith}
 use lib.Arith.{digits-lt}
-use lib.Dec.{ltb, ltb→lt, nltb→le}
+use lib.Dec.{eqb, ltb, ltb→lt, nltb→le}
 use lib.ListN.{length, drop, getD, length-append, length-drop, List·getD-append}
 use lib.Seq.{getD-drop, getD-append-add, getD-set-other}
 use borrow.Author.Tests.{ne-eqb}
@@ -24,10 +24,10 @@ use Rattle.counters.specs.Counter.{numberOn}
 use Rattle.controller.specs.declared.Controller.{Controller}
 use Rattle.controller.specs.declared.registers.Mode.{Mode}
 use Rattle.controller.specs.Part.{inRange}
-use Rattle.size.specs.Size.{linesOf, rowsOf, bytesOf}
+use Rattle.size.specs.Size.{linesOf, hasDigits, rowsOf, bytesOf}
 use Rattle.dots.specs.declared.Phase.{Phase}
 use Rattle.dots.specs.Digit.{shownOn}
-use Rattle.dots.specs.Dots.{isMarked, fiveOf, cellDots, dotsAt, lineOf}
+use Rattle.dots.specs.Dots.{imageSize, isMarked, fiveOf, cellDots, dotsAt, lineOf}
 use Rattle.picture.specs.declared.Answer.the-variants.{Done}
 use Rattle.picture.specs.Picture.{pictureOf}
 use Rattle.picture.specs.Answers.{refusals, answerFor, bufferFor, Pictured}
@@ -66,9 +66,9 @@ byte-by-byte c digits rom phase out left p line row digit hl hr hd =
 has-room : (c : Controller) (digits : ℕ) (rom : List ℕ) (phase : Phase) (out left : List ℕ) → Pictured c digits rom phase out Done left → bytesOf (c .registers .mode) digits ≤ length out
 unfolding answerFor refusals ExactlyFrom
 has-room c digits rom phase out left p =
-    let exactly = picture-given-exactly c digits rom phase out Done left p in
-    let short = ltb (length out) (bytesOf (c .registers .mode) digits) in
-    nltb→le (length out) (bytesOf (c .registers .mode) digits) (and-right _ (not short) (exactly .1 .1 .1 .1 .0 refl))
+    let none : Bool = (not (not (inRange (c .registers))) && not (not (hasDigits (c .registers .mode .lines) digits))) && not (not (eqb (length rom) imageSize)) in
+    let short : Bool = ltb (length out) (bytesOf (c .registers .mode) digits) in
+    nltb→le (length out) (bytesOf (c .registers .mode) digits) (and-right none (not short) (picture-given-exactly c digits rom phase out Done left p .1 .1 .1 .1 .0 refl))
 
 over-behind : (new out : List ℕ) (k : ℕ) → length new ≤ k → getD (over new out) k 0 ≡ getD out k 0
 unfolding over
