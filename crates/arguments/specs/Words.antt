@@ -5,8 +5,8 @@ use mathlib.Core.Bool.{Bool, true, false, cond, _&&_}
 use mathlib.Core.List.{List, [], _∷_}
 use lib.Dec.{leb, eqb}
 use Rattle.text.specs.Text.{textOf, meantBy}
-use Rattle.dots.specs.declared.Phase.the-variants.{Plain, Dark}
-use Rattle.sheet.specs.declared.Form.the-variants.{Text, Image}
+use Rattle.dots.specs.declared.phase.Phase.the-variants.{Plain, Dark}
+use Rattle.drawing.specs.declared.form.Form.the-variants.{Text, Image}
 use Rattle.arguments.specs.declared.Asked.{Asked}
 use Rattle.arguments.specs.declared.Asked.the-variants.{View, Usage}
 use Rattle.arguments.specs.declared.count.Count.{Count}

@@ -8,7 +8,7 @@ use lib.Dec.{eqb}
 use lib.ListN.{length, getD}
 use borrow.Author.Tests.{eq-eqb, ne-eqb, eqb-true, eqb-false}
 use Rattle.controller.specs.declared.Controller.{Controller}
-use Rattle.dots.specs.declared.Phase.{Phase}
+use Rattle.dots.specs.declared.phase.Phase.{Phase}
 use Rattle.dots.specs.declared.mark.Mark.{Mark}
 use Rattle.dots.specs.Contracts.{Column}
 use Rattle.dots.specs.Digit.{shownOn}

@@ -10,8 +10,8 @@ use Rattle.counters.specs.Counter.{numberOn}
 use Rattle.controller.specs.declared.Controller.{Controller}
 use Rattle.controller.specs.declared.registers.Registers.{Registers}
 use Rattle.size.specs.Size.{rowsOf}
-use Rattle.dots.specs.declared.Phase.{Phase}
-use Rattle.dots.specs.declared.Phase.the-variants.{Plain, Dark}
+use Rattle.dots.specs.declared.phase.Phase.{Phase}
+use Rattle.dots.specs.declared.phase.Phase.the-variants.{Plain, Dark}
 use Rattle.dots.specs.Digit.{shownOn}
 use Rattle.lent.specs.Lists.{values, parts}
 

@@ -3,14 +3,10 @@ mod column;
 mod digit;
 mod line;
 mod mark;
+mod phase;
 
 pub use line::draw_line;
+pub use phase::Phase;
 
 // 16 bytes for each of 256 codes.
 pub const IMAGE_SIZE: usize = 4096;
-
-// The blink phase.
-pub enum Phase {
-    Plain,
-    Dark,
-}

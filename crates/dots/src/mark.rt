@@ -9,7 +9,7 @@ ghost use Rattle.size.specs.Size.{linesOf, mostDigits};
 ghost use Rattle.dots.specs.Digit.{shownOn};
 ghost use Rattle.dots.specs.Contracts.{Column};
 ghost use Rattle.dots.specs.Dots.{isDark, isMarked, isSet};
-use super::Phase;
+use super::phase::Phase;
 use controller::registers::Registers;
 use counters::LineMode;
 use counters::address::DisplayAddress;

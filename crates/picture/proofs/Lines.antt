@@ -6,7 +6,7 @@ use mathlib.Core.List.{List}
 use native.Mathlib.Nat.{mul-assoc}
 use lib.ListN.{length, replicate}
 use Rattle.controller.specs.declared.Controller.{Controller}
-use Rattle.dots.specs.declared.Phase.{Phase}
+use Rattle.dots.specs.declared.phase.Phase.{Phase}
 use Rattle.size.specs.Size.{rowsOf, bytesOf}
 use Rattle.dots.specs.Dots.{cellDots, dotsAt, lineOf}
 use Rattle.picture.specs.Picture.{pictureOf}

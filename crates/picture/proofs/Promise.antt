@@ -18,7 +18,7 @@ use Rattle.controller.specs.Part.{inRange}
 use Rattle.controller.proofs.Ranged.{facts}
 use Rattle.size.specs.Size.{mostDigits, bytesOf, hasDigits}
 use Rattle.size.proofs.Sizes.{digits-counted}
-use Rattle.dots.specs.declared.Phase.{Phase}
+use Rattle.dots.specs.declared.phase.Phase.{Phase}
 use Rattle.dots.specs.Dots.{imageSize}
 use Rattle.dots.specs.Contracts.{Drawable}
 use Rattle.picture.specs.declared.Answer.{Answer}

@@ -25,7 +25,7 @@ use Rattle.controller.specs.declared.Controller.{Controller}
 use Rattle.controller.specs.declared.registers.Mode.{Mode}
 use Rattle.controller.specs.Part.{inRange}
 use Rattle.size.specs.Size.{linesOf, hasDigits, rowsOf, bytesOf}
-use Rattle.dots.specs.declared.Phase.{Phase}
+use Rattle.dots.specs.declared.phase.Phase.{Phase}
 use Rattle.dots.specs.Digit.{shownOn}
 use Rattle.dots.specs.Dots.{imageSize, isMarked, fiveOf, cellDots, dotsAt, lineOf}
 use Rattle.picture.specs.declared.Answer.the-variants.{Done}

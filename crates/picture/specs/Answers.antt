@@ -10,7 +10,7 @@ use Rattle.lent.specs.Buffer.{unlessRefused}
 use Rattle.controller.specs.declared.Controller.{Controller}
 use Rattle.controller.specs.Part.{inRange}
 use Rattle.size.specs.Size.{hasDigits, bytesOf}
-use Rattle.dots.specs.declared.Phase.{Phase}
+use Rattle.dots.specs.declared.phase.Phase.{Phase}
 use Rattle.dots.specs.Dots.{imageSize}
 use Rattle.picture.specs.declared.Answer.{Answer}
 use Rattle.picture.specs.declared.Answer.the-variants.{Done, BadDigits, BadImage, ShortBuffer, NotInRange}

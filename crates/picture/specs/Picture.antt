@@ -3,7 +3,7 @@ use Prim.Native.Nat.{ℕ}
 use mathlib.Core.List.{List}
 use Rattle.controller.specs.declared.Controller.{Controller}
 use Rattle.size.specs.Size.{linesOf}
-use Rattle.dots.specs.declared.Phase.{Phase}
+use Rattle.dots.specs.declared.phase.Phase.{Phase}
 use Rattle.lent.specs.Lists.{parts}
 use Rattle.dots.specs.Dots.{lineOf}
 

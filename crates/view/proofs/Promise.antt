@@ -10,9 +10,9 @@ use lib.Dec.{eqb}
 use lib.ListN.{length, drop, length-append}
 use lib.Seq.{take-append-seam}
 use Rattle.lent.specs.Put.{putAt, Puts}
-use Rattle.dots.specs.declared.Phase.{Phase}
+use Rattle.dots.specs.declared.phase.Phase.{Phase}
 use Rattle.lent.specs.Buffer.{over}
-use Rattle.sheet.specs.declared.Form.{Form}
+use Rattle.drawing.specs.declared.form.Form.{Form}
 use Rattle.view.specs.declared.Answer.{Answer}
 use Rattle.view.specs.declared.Answer.the-variants.{Done, Short}
 use Rattle.view.specs.View.{viewOf}

@@ -16,18 +16,18 @@ use Rattle.controller.specs.declared.registers.Mode.{Mode}
 use Rattle.controller.specs.Part.{inRange}
 use Rattle.text.specs.Text.{refusedOf}
 use Rattle.lent.specs.Put.{putAt, Puts}
-use Rattle.dots.specs.declared.Phase.{Phase}
+use Rattle.dots.specs.declared.phase.Phase.{Phase}
 use Rattle.size.specs.Size.{linesOf, mostDigits, rowsIn, bytesOf, hasDigits}
 use Rattle.lent.specs.Buffer.{over}
 use Rattle.picture.specs.Picture.{pictureOf}
 use Rattle.picture.specs.Answers.{answerFor, bufferFor}
 use Rattle.picture.proofs.Lines.{length-picture}
 use Rattle.size.proofs.Sizes.{digits-counted}
-use Rattle.sheet.specs.declared.Answer.{Answer}
-use Rattle.sheet.specs.declared.Form.{Form}
-use Rattle.sheet.specs.Sheet.{sheetOf}
-use Rattle.sheet.specs.Answers.{countOf, writtenFor, Drawn, answerFor as sheetAnswer}
-use Rattle.sheet.proofs.Theorems.{at-most}
+use Rattle.drawing.specs.declared.Answer.{Answer}
+use Rattle.drawing.specs.declared.form.Form.{Form}
+use Rattle.drawing.specs.Drawing.{drawingOf}
+use Rattle.drawing.specs.Answers.{valueOf, writtenFor, Drawing, answerFor as sheetAnswer}
+use Rattle.drawing.proofs.Theorems.{at-most}
 use Rattle.view.specs.View.{shownOf}
 
 -- ---- no picture has more than 880 bytes

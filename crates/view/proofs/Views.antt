@@ -13,8 +13,8 @@ use Rattle.bus.proofs.Range.{reached-in-range}
 use Rattle.record.specs.Record.{eventsOf, checkOf}
 use Rattle.run.specs.declared.Ran.{Ran}
 use Rattle.run.specs.Run.{eventOn, ranOf, Running}
-use Rattle.dots.specs.declared.Phase.{Phase}
-use Rattle.sheet.specs.declared.Form.{Form}
+use Rattle.dots.specs.declared.phase.Phase.{Phase}
+use Rattle.drawing.specs.declared.form.Form.{Form}
 use Rattle.view.specs.View.{shownOf, viewOf}
 
 module _ (digits : ℕ) (phase : Phase) (form : Form) (rom bytes : List ℕ) where

@@ -5,9 +5,9 @@ use mathlib.Core.Bool.{cond}
 use mathlib.Core.List.{List, []}
 use lib.Dec.{ltb, eqb}
 use lib.ListN.{length}
-use Rattle.dots.specs.declared.Phase.{Phase}
+use Rattle.dots.specs.declared.phase.Phase.{Phase}
 use Rattle.lent.specs.Buffer.{over}
-use Rattle.sheet.specs.declared.Form.{Form}
+use Rattle.drawing.specs.declared.form.Form.{Form}
 use Rattle.view.specs.declared.Answer.{Answer}
 use Rattle.view.specs.declared.Answer.the-variants.{Done, Short}
 use Rattle.view.specs.View.{viewOf}

@@ -3,8 +3,8 @@ use Prim.Native.Nat.{ℕ, _≤_}
 use mathlib.Core.Path.{_≡_}
 use mathlib.Core.List.{List}
 use lib.ListN.{length, take}
-use Rattle.dots.specs.declared.Phase.{Phase}
-use Rattle.sheet.specs.declared.Form.{Form}
+use Rattle.dots.specs.declared.phase.Phase.{Phase}
+use Rattle.drawing.specs.declared.form.Form.{Form}
 use Rattle.view.specs.declared.Answer.{Answer}
 use Rattle.view.specs.Answers.{countOf, writtenFor, Viewed}
 

@@ -9,11 +9,11 @@ use Rattle.controller.specs.declared.Controller.{Controller}
 use Rattle.controller.specs.Part.{switchedOn}
 use Rattle.record.specs.Record.{eventsOf, checkOf}
 use Rattle.run.specs.Run.{ranOf}
-use Rattle.dots.specs.declared.Phase.{Phase}
+use Rattle.dots.specs.declared.phase.Phase.{Phase}
 use Rattle.picture.specs.Picture.{pictureOf}
 use Rattle.size.specs.Size.{hasDigits}
-use Rattle.sheet.specs.declared.Form.{Form}
-use Rattle.sheet.specs.Sheet.{sheetOf}
+use Rattle.drawing.specs.declared.form.Form.{Form}
+use Rattle.drawing.specs.Drawing.{drawingOf}
 
 -- the picture of a part: 4 for the count of digits, then 5 for the ROM file
 unfoldable pub shownOf : Controller → (digits : ℕ) → Phase → Form → (rom : List ℕ) → List ℕ

@@ -5,7 +5,7 @@ ghost use Prim.Native.Nat.{_≤_};
 ghost use lib.ListN.{length};
 ghost use Rattle.controller.specs.Part.{inRange};
 ghost use Rattle.lent.specs.Put.{Puts};
-ghost use Rattle.sheet.specs.Answers.{countOf};
+ghost use Rattle.drawing.specs.Answers.{valueOf};
 ghost use Rattle.view.specs.View.{shownOf, viewOf};
 ghost use Rattle.view.specs.Answers.{Viewed};
 use controller::Controller;

@@ -8,7 +8,7 @@ use denote.Ref.{now}
 use Rattle.picture.specs.Picture.{pictureOf}
 use Rattle.picture.specs.Answers.{answerFor}
 use Rattle.picture.proofs.Lines.{length-picture}
-use Rattle.sheet.specs.declared.Form.the-variants.{Text}
+use Rattle.drawing.specs.declared.form.Form.the-variants.{Text}
 use Rattle.view.proofs.Shown.{refusal-puts, dots-there, sheet-puts}
 use Rattle.view.proofs.show.Statement.{statement}
 use Rattle.view.proofs.show.Tie as tie

@@ -1,4 +1,0 @@
-pub mod Rows
-pub mod Sheets
-pub mod Promise
-pub mod Theorems
