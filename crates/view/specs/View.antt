@@ -1,4 +1,4 @@
--- What the screen program prints for a count of digits, a phase, a form, a ROM file and a record.
+-- What `screen` prints for a count of digits, a phase, a form, a ROM file and a record.
 use Prim.Native.Nat.{ℕ}
 use mathlib.Core.Bool.{cond}
 use mathlib.Core.List.{List}
@@ -10,6 +10,7 @@ use Rattle.controller.specs.Part.{switchedOn}
 use Rattle.record.specs.Record.{eventsOf, checkOf}
 use Rattle.run.specs.Run.{ranOf}
 use Rattle.dots.specs.declared.phase.Phase.{Phase}
+use Rattle.dots.specs.Dots.{imageSize}
 use Rattle.picture.specs.Picture.{pictureOf}
 use Rattle.size.specs.Size.{hasDigits}
 use Rattle.drawing.specs.declared.form.Form.{Form}
@@ -19,8 +20,8 @@ use Rattle.drawing.specs.Drawing.{drawingOf}
 unfoldable pub shownOf : Controller → (digits : ℕ) → Phase → Form → (rom : List ℕ) → List ℕ
 shownOf c digits phase form rom =
     cond (hasDigits (c .registers .mode .lines) digits)
-    (cond (eqb (length rom) 4096)
-    (sheetOf form (c .registers .mode) digits (pictureOf c digits rom phase))
+    (cond (eqb (length rom) imageSize)
+    (drawingOf form (c .registers .mode) digits (pictureOf c digits rom phase))
     (refusedOf 5))
     (refusedOf 4)
 

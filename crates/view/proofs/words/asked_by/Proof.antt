@@ -1,7 +1,7 @@
 use borrow.Author.Needs.{needs}
-use Rattle.arguments.specs.Words.{viewOf, askedBy}
-use Rattle.arguments.proofs.asked_by.Statement.{statement}
-use Rattle.arguments.proofs.asked_by.Tie as tie
+use Rattle.view.specs.Words.{askedOf, askedBy}
+use Rattle.view.proofs.words.asked_by.Statement.{statement}
+use Rattle.view.proofs.words.asked_by.Tie as tie
 
 count-in-requires : tie.Need-count-in-requires
 count-in-requires c κs = search needs
@@ -31,17 +31,17 @@ enum-known-form : tie.Need-enum-known-form
 enum-known-form c = search needs
 
 returns : tie.Need-returns
-unfolding viewOf askedBy
+unfolding askedOf askedBy
 returns c = rw (← c .before .before .count-in .ensures, c .enum-told .given .1)
 
 returns-2 : tie.Need-returns-2
-unfolding viewOf askedBy
+unfolding askedOf askedBy
 returns-2 c = let at-phase = c .before .before in
     let at-digits = at-phase .before .before in
     rw (← at-digits .before .before .count-in .ensures, at-digits .digits .given .1, ← at-phase .phase-in .ensures, c .enum-told2 .given .1)
 
 returns-3 : tie.Need-returns-3
-unfolding viewOf askedBy
+unfolding askedOf askedBy
 returns-3 c = let at-form = c .before .before in
     let in-phase = at-form .before .before in
     let at-phase = in-phase .before .before in
@@ -49,7 +49,7 @@ returns-3 c = let at-form = c .before .before in
     rw (← at-digits .before .before .count-in .ensures, at-digits .digits .given .1, ← at-phase .phase-in .ensures, in-phase .phase .given .1, ← at-form .form-in .ensures, c .enum-told3 .given .1)
 
 returns-4 : tie.Need-returns-4
-unfolding viewOf askedBy
+unfolding askedOf askedBy
 returns-4 c = let in-form = c .before in
     let at-form = in-form .before .before in
     let in-phase = at-form .before .before in

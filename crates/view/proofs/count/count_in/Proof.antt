@@ -3,9 +3,9 @@ use mathlib.Core.Path.{refl}
 use native.Mathlib.Nat.{le-antisymm}
 use lib.ListN.{length}
 use borrow.Author.Needs.{needs}
-use Rattle.arguments.proofs.Counts.{Counted, empty-word, below-digits, above-digits, grown-large, counted-next, counted-all}
-use Rattle.arguments.proofs.count.count_in.Statement.{statement}
-use Rattle.arguments.proofs.count.count_in.Tie as tie
+use Rattle.view.proofs.Counts.{Counted, empty-word, below-digits, above-digits, grown-large, counted-next, counted-all}
+use Rattle.view.proofs.count.count_in.Statement.{statement}
+use Rattle.view.proofs.count.count_in.Tie as tie
 
 abbrev Inv-loop : tie.InvT-loop
 Inv-loop word count₀ i₀ count i = Counted word count i

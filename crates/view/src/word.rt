@@ -1,8 +1,8 @@
 // Words that are given letter by letter.
 ghost use mathlib.Core.Path.{_≡_};
-ghost use Rattle.arguments.specs.Words.{isWord, phaseIn, formIn};
-use picture::Phase;
-use sheet::Form;
+ghost use Rattle.view.specs.Words.{isWord, phaseIn, formIn};
+use dots::Phase;
+use drawing::Form;
 
 pub enum Phased {
     InPhase(Phase),

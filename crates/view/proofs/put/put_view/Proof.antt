@@ -5,8 +5,8 @@ use Rattle.controller.specs.Part.{switchedOn}
 use Rattle.record.specs.Record.{eventsOf, checkOf}
 use Rattle.run.specs.Run.{ranOf}
 use Rattle.view.proofs.Views.{view-long, view-refused, view-shown, ran-told, ran-in-range}
-use Rattle.view.proofs.put_view.Statement.{statement}
-use Rattle.view.proofs.put_view.Tie as tie
+use Rattle.view.proofs.put.put_view.Statement.{statement}
+use Rattle.view.proofs.put.put_view.Tie as tie
 
 -- the record is sound, and this is the part that it leaves
 sound : (c : tie.Else2) → checkOf (now (c .before .before .before .before .before .before .before .args .bytes)) ≡ 0

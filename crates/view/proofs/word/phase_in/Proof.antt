@@ -1,8 +1,8 @@
 use borrow.Author.Needs.{needs}
 use mathlib.Core.Path.{sym}
-use Rattle.arguments.specs.Words.{phaseIn}
-use Rattle.arguments.proofs.word.phase_in.Statement.{statement}
-use Rattle.arguments.proofs.word.phase_in.Tie as tie
+use Rattle.view.specs.Words.{phaseIn}
+use Rattle.view.proofs.word.phase_in.Statement.{statement}
+use Rattle.view.proofs.word.phase_in.Tie as tie
 
 slice-aggregate-is-word : tie.Need-slice-aggregate-is-word
 slice-aggregate-is-word c = search needs

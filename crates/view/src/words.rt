@@ -1,18 +1,14 @@
 // The words that the screen program is started with.
 ghost use mathlib.Core.Path.{_≡_};
-ghost use Rattle.arguments.specs.Words.{askedBy};
-
-mod count;
-mod word;
-
-use count::Count;
-use count::count_in;
-use picture::Phase;
-use sheet::Form;
-use word::Formed;
-use word::Phased;
-use word::form_in;
-use word::phase_in;
+ghost use Rattle.view.specs.Words.{askedBy};
+use super::count::Count;
+use super::count::count_in;
+use super::word::Formed;
+use super::word::Phased;
+use super::word::form_in;
+use super::word::phase_in;
+use dots::Phase;
+use drawing::Form;
 
 pub enum Asked {
     View(u8, Phase, Form),

@@ -1,6 +1,6 @@
 // A count of digits, written in decimal.
 ghost use mathlib.Core.Path.{_≡_};
-ghost use Rattle.arguments.specs.Words.{countIn};
+ghost use Rattle.view.specs.Words.{countIn};
 
 pub enum Count {
     Digits(u8),

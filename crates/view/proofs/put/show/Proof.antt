@@ -5,23 +5,24 @@ use mathlib.Core.List.{List}
 use native.Mathlib.Omega.{arith}
 use lib.ListN.{length, take, replicate, length-take, length-replicate}
 use denote.Ref.{now}
+use Rattle.size.specs.Size.{mostBytes}
 use Rattle.picture.specs.Picture.{pictureOf}
 use Rattle.picture.specs.Answers.{answerFor}
 use Rattle.picture.proofs.Lines.{length-picture}
 use Rattle.drawing.specs.declared.form.Form.the-variants.{Text}
-use Rattle.view.proofs.Shown.{refusal-puts, dots-there, sheet-puts}
-use Rattle.view.proofs.show.Statement.{statement}
-use Rattle.view.proofs.show.Tie as tie
+use Rattle.view.proofs.Shown.{refusal-puts, dots-there, drawing-puts}
+use Rattle.view.proofs.put.show.Statement.{statement}
+use Rattle.view.proofs.put.show.Tie as tie
 
 abbrev start : tie.After-picture → tie.Start
 start c = c .before .before .before .before .before .before
 
 -- the dots before they are drawn
 abbrev blank : List ℕ
-blank = replicate 880 0
+blank = replicate mostBytes 0
 
-room : length blank ≡ 880
-room = length-replicate {A = ℕ} 880 0
+room : length blank ≡ mostBytes
+room = length-replicate {A = ℕ} mostBytes 0
 
 answered : (c : tie.After-number) →
     let l = start (c .before .before) .args in
@@ -68,14 +69,14 @@ byte-count-requires c κs = search needs
 array-share-prefix-dots : tie.Need-array-share-prefix-dots
 array-share-prefix-dots c = omega (arith, counted c, length-take (c .byte-count .result) (c .before .before .before .before .picture .last .1 .1 .1 .1 .0))
 
-slice-aggregate-sheet : tie.Need-slice-aggregate-sheet
-slice-aggregate-sheet c = sym (counted (c .before))
+slice-aggregate-draw : tie.Need-slice-aggregate-draw
+slice-aggregate-draw c = sym (counted (c .before))
 
-sheet-requires : tie.Need-sheet-requires
-sheet-requires c κs = search needs
+draw-requires : tie.Need-draw-requires
+draw-requires c κs = search needs
 
-count-requires : tie.Need-count-requires
-count-requires c κs = search needs
+value-requires : tie.Need-value-requires
+value-requires c κs = search needs
 
 same-length-2 : tie.Need-same-length-2
 same-length-2 c = search needs
@@ -84,7 +85,7 @@ returns-2 : tie.Need-returns-2
 returns-2 c = let at-bytes = c .before .before .before .before .before .before in
     let at-number = at-bytes .before .before in
     let l = start (at-number .before .before) in
-    sheet-puts (l .args .controller) (l .args .digits) (l .args .phase) _ (now (l .args .rom)) blank (l .pre .0) room (sym (answered at-number) ∙ at-bytes .before .if1 .left) _ _ _ _ _ (there at-bytes) (l .pre .1) (c .before .before .before .sheet .ensures) (c .count .ensures)
+    drawing-puts (l .args .controller) (l .args .digits) (l .args .phase) _ (now (l .args .rom)) blank (l .pre .0) room (sym (answered at-number) ∙ at-bytes .before .if1 .left) _ _ _ _ _ (there at-bytes) (l .pre .1) (c .before .before .before .draw .ensures) (c .value .ensures)
 
 pub show-spec : {M : Type 1} → statement M
 show-spec =
@@ -98,8 +99,8 @@ show-spec =
     returns
     byte-count-requires
     array-share-prefix-dots
-    slice-aggregate-sheet
-    sheet-requires
-    count-requires
+    slice-aggregate-draw
+    draw-requires
+    value-requires
     same-length-2
     returns-2)

@@ -8,7 +8,7 @@ use borrow.Author.Tests.{eq-eqb, ne-eqb}
 use lib.Dec.{eqb}
 use lib.ListN.{length, drop, getD}
 use lib.Seq.{drop-cons, drop-length}
-use Rattle.arguments.specs.Words.{isWord}
+use Rattle.view.specs.Words.{isWord}
 
 pub and-false : (b : Bool) → (b && false) ≡ false
 and-false true = refl

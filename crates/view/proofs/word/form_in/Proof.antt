@@ -1,9 +1,9 @@
 use borrow.Author.Needs.{needs}
 use borrow.Author.Tests.{eq-eqb, ne-eqb}
 use mathlib.Core.Path.{sym}
-use Rattle.arguments.specs.Words.{formIn}
-use Rattle.arguments.proofs.word.form_in.Statement.{statement}
-use Rattle.arguments.proofs.word.form_in.Tie as tie
+use Rattle.view.specs.Words.{formIn}
+use Rattle.view.proofs.word.form_in.Statement.{statement}
+use Rattle.view.proofs.word.form_in.Tie as tie
 
 returns : tie.Need-returns
 unfolding formIn

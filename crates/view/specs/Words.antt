@@ -7,14 +7,14 @@ use lib.Dec.{leb, eqb}
 use Rattle.text.specs.Text.{textOf, meantBy}
 use Rattle.dots.specs.declared.phase.Phase.the-variants.{Plain, Dark}
 use Rattle.drawing.specs.declared.form.Form.the-variants.{Text, Image}
-use Rattle.arguments.specs.declared.Asked.{Asked}
-use Rattle.arguments.specs.declared.Asked.the-variants.{View, Usage}
-use Rattle.arguments.specs.declared.count.Count.{Count}
-use Rattle.arguments.specs.declared.count.Count.the-variants.{Digits, NoCount}
-use Rattle.arguments.specs.declared.word.Phased.{Phased}
-use Rattle.arguments.specs.declared.word.Phased.the-variants.{InPhase, NoPhase}
-use Rattle.arguments.specs.declared.word.Formed.{Formed}
-use Rattle.arguments.specs.declared.word.Formed.the-variants.{InForm, NoForm}
+use Rattle.view.specs.declared.words.Asked.{Asked}
+use Rattle.view.specs.declared.words.Asked.the-variants.{View, Usage}
+use Rattle.view.specs.declared.count.Count.{Count}
+use Rattle.view.specs.declared.count.Count.the-variants.{Digits, NoCount}
+use Rattle.view.specs.declared.word.Phased.{Phased}
+use Rattle.view.specs.declared.word.Phased.the-variants.{InPhase, NoPhase}
+use Rattle.view.specs.declared.word.Formed.{Formed}
+use Rattle.view.specs.declared.word.Formed.the-variants.{InForm, NoForm}
 
 -- ---- DIGITS: decimal, 0 to 255, plain digits only
 
@@ -45,11 +45,11 @@ formIn words word = cond (eqb words 3) (InForm Text) (cond (eqb words 4 && isWor
 
 -- ---- a word that means nothing asks for the usage line
 
-unfoldable pub viewOf : Count → Phased → Formed → Asked
-viewOf (Digits n) (InPhase phase) (InForm form) = View n phase form
-viewOf (Digits n) (InPhase phase) NoForm = Usage
-viewOf (Digits n) NoPhase formed = Usage
-viewOf NoCount phased formed = Usage
+unfoldable pub askedOf : Count → Phased → Formed → Asked
+askedOf (Digits n) (InPhase phase) (InForm form) = View n phase form
+askedOf (Digits n) (InPhase phase) NoForm = Usage
+askedOf (Digits n) NoPhase formed = Usage
+askedOf NoCount phased formed = Usage
 
 unfoldable pub askedBy : (words : ℕ) (digits phase form : List ℕ) → Asked
-askedBy words digits phase form = viewOf (countIn digits) (phaseIn phase) (formIn words form)
+askedBy words digits phase form = askedOf (countIn digits) (phaseIn phase) (formIn words form)

@@ -11,9 +11,9 @@ use lib.Dec.{leb}
 use lib.ListN.{length, drop, getD}
 use lib.Seq.{drop-cons, drop-length}
 use Rattle.text.specs.Text.{meantBy}
-use Rattle.arguments.specs.declared.count.Count.the-variants.{Digits, NoCount}
-use Rattle.arguments.specs.Words.{allDigits, isEmpty, countIn}
-use Rattle.arguments.proofs.Letters.{and-false}
+use Rattle.view.specs.declared.count.Count.the-variants.{Digits, NoCount}
+use Rattle.view.specs.Words.{allDigits, isEmpty, countIn}
+use Rattle.view.proofs.Letters.{and-false}
 
 pub meant-grows : (n : ℕ) (word : List ℕ) → n ≤ meantBy n word
 meant-grows n [] = omega arith
