@@ -24,7 +24,7 @@ use Rattle.size.proofs.Sizes.{picture-small}
 use Rattle.drawing.specs.declared.Answer.{Answer}
 use Rattle.drawing.specs.declared.form.Form.{Form}
 use Rattle.drawing.specs.Drawing.{drawingOf, mostDrawn}
-use Rattle.drawing.specs.Answers.{valueFor, Drawing, answerFor as drawingAnswer, refusals as drawingRefusals}
+use Rattle.drawing.specs.Answers.{valueOf, valueFor, Drawing, answerFor as drawingAnswer, refusals as drawingRefusals}
 use Rattle.drawing.proofs.Theorems.{at-most}
 use Rattle.view.specs.View.{shownOf}
 
@@ -71,7 +71,7 @@ module _ (c : Controller) (digits : ℕ) (phase : Phase) (form : Form) (rom befo
 
     -- ---- and its drawing
     pub drawing-puts : (dots out left : List ℕ) (answer : Answer) (n : ℕ) → dots ≡ pictureOf c digits rom phase → mostDrawn ≤ length out
-        → Drawing form (c .registers .mode) digits dots out answer left → n ≡ countOf answer → Puts (shownOf c digits phase form rom) 0 out n left
+        → Drawing form (c .registers .mode) digits dots out answer left → n ≡ valueOf answer → Puts (shownOf c digits phase form rom) 0 out n left
     unfolding drawingAnswer drawingRefusals valueFor firstOf
     drawing-puts dots out left answer n e h d k =
         let mode = c .registers .mode in
