@@ -10,8 +10,8 @@ use lib.ListN.{length, getD, set, length-set}
 use lib.Seq.{getD-set-same, getD-set-other, ext-getD}
 use borrow.Author.Count.{below-more}
 use Rattle.lent.specs.Lists.{values, parts}
-use Rattle.dots.specs.Contracts.{Column}
 use Rattle.lent.proofs.Lists.{length-parts, length-values, parts-at, values-at}
+use Rattle.dots.specs.Contracts.{Column}
 
 same-row : (s q d k e : ℕ) → d < s → e < s → q * s + d ≡ k * s + e → q ≡ k
 same-row s q d k e hd he h = sym (digits-div q hd) ∙ ap (λ (n : ℕ). n / s) h ∙ digits-div k he

@@ -7,14 +7,14 @@ use native.Mathlib.Omega.{arith}
 use lib.Dec.{eqb}
 use lib.ListN.{length, getD}
 use borrow.Author.Tests.{eq-eqb, ne-eqb, eqb-true, eqb-false}
+use Rattle.lent.proofs.Lists.{parts-same, values-same}
 use Rattle.controller.specs.declared.Controller.{Controller}
+use Rattle.size.specs.Size.{rowsOf}
 use Rattle.dots.specs.declared.phase.Phase.{Phase}
 use Rattle.dots.specs.declared.mark.Mark.{Mark}
-use Rattle.dots.specs.Contracts.{Column}
 use Rattle.dots.specs.Digit.{shownOn}
 use Rattle.dots.specs.Dots.{isDark, patternOf, isMarked, isSet, fiveOf, cellDots, dotsAt, lineOf}
-use Rattle.size.specs.Size.{rowsOf}
-use Rattle.lent.proofs.Lists.{parts-same, values-same}
+use Rattle.dots.specs.Contracts.{Column}
 use Rattle.dots.proofs.Columns.{columns-rows}
 
 -- ---- a byte, where the digit is marked or not
@@ -28,16 +28,16 @@ full b t p e = rw e
 
 -- ---- a line, from its patterns and its mark
 module _ (c : Controller) (rom : List ℕ) (phase : Phase) (line digits rows : ℕ) (mark : Mark) where
-  abbrev pub patternAt : (digit row : ℕ) → ℕ
+  abbrev patternAt : (digit row : ℕ) → ℕ
   patternAt d q = patternOf (c .character) rom rows (getD (c .display) (shownOn (c .registers .mode .lines) (c .registers .shift) line d .0) 0) q
 
   markedAt : (digit row : ℕ) → ℕ
   markedAt d q = fiveOf (eqb d (mark .digit) && isSet (mark .cursor) (mark .blink) rows q) (patternAt d q)
 
-  abbrev pub Patterns : List ℕ → Type 0
+  abbrev Patterns : List ℕ → Type 0
   Patterns out = (d : ℕ) → d < digits → (q : ℕ) → q < rows → getD out (q * digits + d) 0 ≡ patternAt d q % 0x20
 
-  abbrev pub Marked : (before after : List ℕ) → Type 0
+  abbrev Marked : (before after : List ℕ) → Type 0
   Marked before after = Column (λ q. cond (isSet (mark .cursor) (mark .blink) rows q) 0x1F (getD before (q * digits + mark .digit) 0)) rows digits (mark .digit) before after
 
   module _ (out : List ℕ) (drawn : Patterns out) where

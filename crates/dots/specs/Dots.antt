@@ -7,13 +7,13 @@ use lib.ListN.{getD}
 use Rattle.counters.specs.declared.address.Cell.{Cell}
 use Rattle.counters.specs.Address.{addressOf}
 use Rattle.counters.specs.Counter.{numberOn}
+use Rattle.lent.specs.Lists.{values, parts}
 use Rattle.controller.specs.declared.Controller.{Controller}
 use Rattle.controller.specs.declared.registers.Registers.{Registers}
 use Rattle.size.specs.Size.{rowsOf}
 use Rattle.dots.specs.declared.phase.Phase.{Phase}
 use Rattle.dots.specs.declared.phase.Phase.the-variants.{Plain, Dark}
 use Rattle.dots.specs.Digit.{shownOn}
-use Rattle.lent.specs.Lists.{values, parts}
 
 -- the ROM image that the caller lends: 16 bytes for each of 256 codes
 abbrev pub imageSize : ℕ

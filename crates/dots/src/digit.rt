@@ -1,6 +1,6 @@
 // The cell that a digit shows.
-ghost use mathlib.Core.Path.{_≡_};
 ghost use Prim.Native.Nat.{_<_};
+ghost use mathlib.Core.Path.{_≡_};
 ghost use Rattle.size.specs.Size.{linesOf, mostDigits};
 ghost use Rattle.dots.specs.Digit.{shownOn};
 use counters::LineMode;

@@ -1,7 +1,7 @@
 // One line: its digits' columns, then the mark.
+ghost use Prim.Native.Nat.{ℕ, _+_, _*_, _%_, _≤_, _<_};
 ghost use mathlib.Core.Path.{_≡_};
 ghost use mathlib.Core.Bool.{true};
-ghost use Prim.Native.Nat.{ℕ, _+_, _*_, _%_, _≤_, _<_};
 ghost use lib.ListN.{length, getD};
 ghost use Rattle.size.specs.Size.{linesOf, mostDigits, rowsOf};
 ghost use Rattle.dots.specs.Digit.{shownOn};

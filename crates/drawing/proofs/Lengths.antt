@@ -7,12 +7,12 @@ use lib.ListN.{length, take, drop, getD, length-append, length-drop}
 use lib.Seq.{take-length, getD-drop}
 use Rattle.counters.specs.declared.LineMode.{LineMode}
 use Rattle.counters.specs.declared.LineMode.the-variants.{One, Two}
+use Rattle.lent.proofs.Lists.{length-parts, length-values}
 use Rattle.controller.specs.declared.registers.Mode.{Mode}
 use Rattle.size.specs.Size.{rowsOf}
-use Rattle.lent.proofs.Lists.{length-parts, length-values}
+use Rattle.text.specs.Text.{decimalOf}
 use Rattle.drawing.specs.declared.form.Form.{Form}
 use Rattle.drawing.specs.declared.form.Form.the-variants.{Text, Image}
-use Rattle.text.specs.Text.{decimalOf}
 use Rattle.drawing.specs.Row.{textRow, imageRow}
 use Rattle.drawing.specs.Drawing.{headOf, rowIn, gapIn, between, lineIn, drawingOf}
 use Rattle.drawing.specs.Contracts.{rowSize, gapSize, linesSize, sizeOf}

@@ -8,8 +8,9 @@ use Rattle.condition.proofs.First.{first-given-exactly}
 use Rattle.counters.specs.declared.LineMode.{LineMode}
 use Rattle.counters.specs.declared.LineMode.the-variants.{One, Two}
 use Rattle.controller.specs.declared.registers.Mode.{Mode}
-use Rattle.text.proofs.Decimal.{digits-below}
 use Rattle.size.specs.Size.{linesOf, mostDigits, rowsIn}
+use Rattle.size.proofs.Sizes.{digits-counted}
+use Rattle.text.proofs.Decimal.{digits-below}
 use Rattle.drawing.specs.declared.form.Form.{Form}
 use Rattle.drawing.specs.declared.form.Form.the-variants.{Text, Image}
 use Rattle.drawing.specs.Row.{widthOf}
@@ -17,7 +18,6 @@ use Rattle.drawing.specs.Drawing.{heightOf, headOf, mostDrawn}
 use Rattle.drawing.specs.Contracts.{rowSize, gapSize, linesSize, sizeOf}
 use Rattle.drawing.specs.Answers.{refusals, answerFor}
 use Rattle.drawing.specs.Theorems.{DrawingGivenExactly, AtMost}
-use Rattle.size.proofs.Sizes.{digits-counted}
 use Rattle.drawing.proofs.Lengths.{length-head, length-drawing}
 
 pub drawing-given-exactly : DrawingGivenExactly

@@ -4,12 +4,12 @@ use mathlib.Core.List.{List, [], _++_}
 use lib.ListN.{getD}
 use Rattle.counters.specs.declared.LineMode.{LineMode}
 use Rattle.counters.specs.declared.LineMode.the-variants.{One, Two}
+use Rattle.lent.specs.Lists.{parts}
 use Rattle.controller.specs.declared.registers.Mode.{Mode}
 use Rattle.size.specs.Size.{linesOf, rowsOf}
-use Rattle.lent.specs.Lists.{parts}
+use Rattle.text.specs.Text.{textOf, decimalOf}
 use Rattle.drawing.specs.declared.form.Form.{Form}
 use Rattle.drawing.specs.declared.form.Form.the-variants.{Text, Image}
-use Rattle.text.specs.Text.{textOf, decimalOf}
 use Rattle.drawing.specs.Row.{widthOf, textRow, imageRow}
 
 -- one blank row between the screen's lines

@@ -1,6 +1,6 @@
 // How many bytes a drawing and its parts have.
-ghost use mathlib.Core.Path.{_≡_};
 ghost use Prim.Native.Nat.{_*_, _≤_, _<_};
+ghost use mathlib.Core.Path.{_≡_};
 ghost use lib.ListN.{length};
 ghost use Rattle.size.specs.Size.{rowsOf};
 ghost use Rattle.drawing.specs.Drawing.{heightOf, headOf, mostDrawn};

@@ -1,6 +1,6 @@
 // The lines of the screen, one behind the other.
-ghost use mathlib.Core.Path.{_≡_};
 ghost use Prim.Native.Nat.{_+_, _*_, _≤_};
+ghost use mathlib.Core.Path.{_≡_};
 ghost use lib.ListN.{length};
 ghost use Rattle.counters.specs.declared.LineMode.the-variants.{Two};
 ghost use Rattle.size.specs.Size.{rowsOf, bytesOf};

@@ -1,6 +1,6 @@
 // One row of dots, as text or as bits.
-ghost use mathlib.Core.Path.{_≡_};
 ghost use Prim.Native.Nat.{_+_, _≤_, _<_, _/_};
+ghost use mathlib.Core.Path.{_≡_};
 ghost use lib.ListN.{length, getD};
 ghost use Rattle.drawing.specs.Row.{widthOf, isOn, markOf, textRow, bitAt, packed, imageRow};
 ghost use Rattle.drawing.specs.Drawing.{rowIn, gapIn};

@@ -5,12 +5,12 @@ use mathlib.Core.Bool.{false}
 use mathlib.Core.List.{List}
 use native.Mathlib.Nat.{mul-assoc}
 use lib.ListN.{length, replicate}
+use Rattle.lent.proofs.Lists.{length-parts, length-values, parts-same, parts-replicate, values-same, values-replicate}
 use Rattle.controller.specs.declared.Controller.{Controller}
-use Rattle.dots.specs.declared.phase.Phase.{Phase}
 use Rattle.size.specs.Size.{rowsOf, bytesOf}
+use Rattle.dots.specs.declared.phase.Phase.{Phase}
 use Rattle.dots.specs.Dots.{cellDots, dotsAt, lineOf}
 use Rattle.picture.specs.Picture.{pictureOf}
-use Rattle.lent.proofs.Lists.{length-parts, length-values, parts-same, parts-replicate, values-same, values-replicate}
 
 pub length-picture : (c : Controller) (digits : ℕ) (rom : List ℕ) (phase : Phase) → length (pictureOf c digits rom phase) ≡ bytesOf (c .registers .mode) digits
 unfolding pictureOf lineOf

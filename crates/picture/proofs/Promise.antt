@@ -7,11 +7,11 @@ use native.Mathlib.Omega.{arith}
 use lib.Dec.{T, eqb, leb→le}
 use lib.ListN.{length, drop}
 use Rattle.condition.proofs.Tests.{holds}
-use Rattle.lent.proofs.Left.{refused-keeps, done-writes-all}
 use Rattle.counters.specs.declared.LineMode.{LineMode}
 use Rattle.counters.specs.declared.LineMode.the-variants.{One, Two}
 use Rattle.counters.specs.declared.shift.Shift.{Shift}
 use Rattle.counters.specs.Shift.{lastShift, hasShift}
+use Rattle.lent.proofs.Left.{refused-keeps, done-writes-all}
 use Rattle.controller.specs.declared.Controller.{Controller}
 use Rattle.controller.specs.declared.registers.Registers.{Registers}
 use Rattle.controller.specs.Part.{inRange}

@@ -13,14 +13,14 @@ use borrow.Author.Tests.{ne-eqb}
 use Rattle.condition.specs.First.{firstOf, ExactlyFrom, absent, distinct}
 use Rattle.condition.proofs.Tests.{split, and-right}
 use Rattle.condition.proofs.First.{first-given-exactly}
-use Rattle.lent.specs.Lists.{values, parts}
-use Rattle.lent.specs.Buffer.{over}
-use Rattle.lent.proofs.Lists.{length-parts, length-values, parts-same, parts-at, values-same, values-at}
-use Rattle.lent.proofs.Left.{done-writes}
 use Rattle.counters.specs.declared.LineMode.the-variants.{Two}
 use Rattle.counters.specs.declared.address.Cell.{Cell}
 use Rattle.counters.specs.Address.{addressOf}
 use Rattle.counters.specs.Counter.{numberOn}
+use Rattle.lent.specs.Buffer.{over}
+use Rattle.lent.specs.Lists.{values, parts}
+use Rattle.lent.proofs.Left.{done-writes}
+use Rattle.lent.proofs.Lists.{length-parts, length-values, parts-same, parts-at, values-same, values-at}
 use Rattle.controller.specs.declared.Controller.{Controller}
 use Rattle.controller.specs.declared.registers.Mode.{Mode}
 use Rattle.controller.specs.Part.{inRange}

@@ -1,10 +1,10 @@
 -- "The picture": all its lines.
 use Prim.Native.Nat.{ℕ}
 use mathlib.Core.List.{List}
+use Rattle.lent.specs.Lists.{parts}
 use Rattle.controller.specs.declared.Controller.{Controller}
 use Rattle.size.specs.Size.{linesOf}
 use Rattle.dots.specs.declared.phase.Phase.{Phase}
-use Rattle.lent.specs.Lists.{parts}
 use Rattle.dots.specs.Dots.{lineOf}
 
 -- order line, row, digit

@@ -11,12 +11,12 @@ use Rattle.counters.specs.Counter.{numberOn}
 use Rattle.controller.specs.declared.Controller.{Controller}
 use Rattle.controller.specs.declared.registers.Registers.{Registers}
 use Rattle.controller.specs.Part.{inRange}
-use Rattle.picture.specs.declared.Answer.{Answer}
-use Rattle.picture.specs.declared.Answer.the-variants.{Done}
-use Rattle.dots.specs.declared.phase.Phase.{Phase}
 use Rattle.size.specs.Size.{linesOf, rowsOf, bytesOf}
+use Rattle.dots.specs.declared.phase.Phase.{Phase}
 use Rattle.dots.specs.Digit.{shownOn}
 use Rattle.dots.specs.Dots.{isMarked, dotsAt}
+use Rattle.picture.specs.declared.Answer.{Answer}
+use Rattle.picture.specs.declared.Answer.the-variants.{Done}
 use Rattle.picture.specs.Picture.{pictureOf}
 use Rattle.picture.specs.Answers.{numberOf, refusals, answerFor, bufferFor, Pictured}
 

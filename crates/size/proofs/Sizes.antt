@@ -4,10 +4,10 @@ use mathlib.Core.Path.{_≡_}
 use mathlib.Core.Bool.{Bool, true, false}
 use native.Mathlib.Omega.{arith}
 use lib.Dec.{leb, leb→le}
+use Rattle.condition.proofs.Tests.{holds, and-left, and-right}
 use Rattle.counters.specs.declared.LineMode.{LineMode}
 use Rattle.counters.specs.declared.LineMode.the-variants.{One, Two}
 use Rattle.controller.specs.declared.registers.Mode.{Mode}
-use Rattle.condition.proofs.Tests.{holds, and-left, and-right}
 use Rattle.size.specs.Size.{linesOf, mostDigits, hasDigits, rowsIn, bytesOf, mostBytes}
 
 pub most-small : (lines : LineMode) → mostDigits lines ≤ 80

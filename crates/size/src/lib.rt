@@ -1,6 +1,6 @@
 // How large a picture is: its lines, digits, rows and bytes.
-ghost use mathlib.Core.Path.{_≡_};
 ghost use Prim.Native.Nat.{_≤_};
+ghost use mathlib.Core.Path.{_≡_};
 ghost use Rattle.size.specs.Size.{linesOf, mostDigits, hasDigits as hasDigitsOn, rowsOf, bytesOf};
 use controller::registers::Mode;
 use counters::LineMode;

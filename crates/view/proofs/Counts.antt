@@ -6,16 +6,16 @@ use mathlib.Core.Bool.{Bool, true, false, cond, _&&_}
 use mathlib.Core.List.{List, [], _∷_}
 use native.Mathlib.Numerals.{add-one}
 use native.Mathlib.Omega.{arith}
-use borrow.Author.Tests.{le-leb, lt-leb}
 use lib.Dec.{leb}
 use lib.ListN.{length, drop, getD}
 use lib.Seq.{drop-cons, drop-length}
+use borrow.Author.Tests.{le-leb, lt-leb}
 use Rattle.text.specs.Text.{meantBy}
 use Rattle.view.specs.declared.count.Count.the-variants.{Digits, NoCount}
 use Rattle.view.specs.Words.{allDigits, isEmpty, countIn}
 use Rattle.view.proofs.Letters.{and-false}
 
-pub meant-grows : (n : ℕ) (word : List ℕ) → n ≤ meantBy n word
+meant-grows : (n : ℕ) (word : List ℕ) → n ≤ meantBy n word
 meant-grows n [] = omega arith
 meant-grows n (character ∷ word) = omega (arith, meant-grows (n * 10 + (character - code "0")) word)
 
@@ -29,7 +29,7 @@ no-count : (empty : Bool) (n : ℕ) → NoCount ≡ cond empty NoCount (cond fal
 no-count true n = refl
 no-count false n = refl
 
-pub other-character : (word : List ℕ) → allDigits word ≡ false → NoCount ≡ countIn word
+other-character : (word : List ℕ) → allDigits word ≡ false → NoCount ≡ countIn word
 unfolding countIn
 other-character word h = rw h (no-count (isEmpty word) (meantBy 0 word))
 
@@ -41,7 +41,7 @@ not-empty : (word : List ℕ) → (length word ≡ 0 → ⊥) → isEmpty word �
 not-empty [] h = absurd (h refl)
 not-empty (character ∷ word) h = refl
 
-pub whole-count : (word : List ℕ) (n : ℕ) → (length word ≡ 0 → ⊥) → allDigits word ≡ true → meantBy 0 word ≡ n → n ≤ 255 → Digits n ≡ countIn word
+whole-count : (word : List ℕ) (n : ℕ) → (length word ≡ 0 → ⊥) → allDigits word ≡ true → meantBy 0 word ≡ n → n ≤ 255 → Digits n ≡ countIn word
 unfolding countIn
 whole-count word n h d e l = rw (not-empty word h, d, e, le-leb n 255 l)
 

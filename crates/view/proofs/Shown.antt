@@ -4,23 +4,23 @@ use mathlib.Core.Path.{_≡_, refl, ap, sym, _∙_}
 use mathlib.Core.Bool.{Bool, true, false, cond, not}
 use mathlib.Core.List.{List}
 use native.Mathlib.Omega.{arith}
-use borrow.Author.Tests.{le-ltb}
 use lib.Dec.{eqb}
 use lib.ListN.{length, take}
+use borrow.Author.Tests.{le-ltb}
 use Rattle.condition.specs.First.{firstOf}
 use Rattle.lent.specs.Put.{Puts}
 use Rattle.lent.proofs.Left.{front-and-rest}
 use Rattle.lent.proofs.Front.{puts-front}
 use Rattle.controller.specs.declared.Controller.{Controller}
 use Rattle.controller.specs.Part.{inRange}
-use Rattle.text.specs.Text.{refusedOf}
-use Rattle.dots.specs.declared.phase.Phase.{Phase}
 use Rattle.size.specs.Size.{mostBytes, bytesOf, hasDigits}
+use Rattle.size.proofs.Sizes.{picture-small}
+use Rattle.dots.specs.declared.phase.Phase.{Phase}
 use Rattle.dots.specs.Dots.{imageSize}
 use Rattle.picture.specs.Picture.{pictureOf}
 use Rattle.picture.specs.Answers.{refusals, answerFor, bufferFor}
 use Rattle.picture.proofs.Lines.{length-picture}
-use Rattle.size.proofs.Sizes.{picture-small}
+use Rattle.text.specs.Text.{refusedOf}
 use Rattle.drawing.specs.declared.Answer.{Answer}
 use Rattle.drawing.specs.declared.form.Form.{Form}
 use Rattle.drawing.specs.Drawing.{drawingOf, mostDrawn}
@@ -59,7 +59,7 @@ module _ (c : Controller) (digits : ℕ) (phase : Phase) (form : Form) (rom befo
     pub digits-told : has ≡ true
     digits-told = told .0
 
-    pub shown-whole : shownOf c digits phase form rom ≡ drawingOf form (c .registers .mode) digits (pictureOf c digits rom phase)
+    shown-whole : shownOf c digits phase form rom ≡ drawingOf form (c .registers .mode) digits (pictureOf c digits rom phase)
     unfolding shownOf
     shown-whole = simp (told .0, told .1)
 

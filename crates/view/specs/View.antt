@@ -4,15 +4,15 @@ use mathlib.Core.Bool.{cond}
 use mathlib.Core.List.{List}
 use lib.Dec.{ltb, eqb}
 use lib.ListN.{length}
-use Rattle.text.specs.Text.{textOf, refusedOf}
 use Rattle.controller.specs.declared.Controller.{Controller}
 use Rattle.controller.specs.Part.{switchedOn}
-use Rattle.record.specs.Record.{eventsOf, checkOf}
-use Rattle.run.specs.Run.{ranOf}
+use Rattle.size.specs.Size.{hasDigits}
 use Rattle.dots.specs.declared.phase.Phase.{Phase}
 use Rattle.dots.specs.Dots.{imageSize}
 use Rattle.picture.specs.Picture.{pictureOf}
-use Rattle.size.specs.Size.{hasDigits}
+use Rattle.record.specs.Record.{eventsOf, checkOf}
+use Rattle.run.specs.Run.{ranOf}
+use Rattle.text.specs.Text.{textOf, refusedOf}
 use Rattle.drawing.specs.declared.form.Form.{Form}
 use Rattle.drawing.specs.Drawing.{drawingOf}
 

@@ -4,8 +4,8 @@ use Prim.Native.Char.{code}
 use mathlib.Core.Bool.{Bool, true, false, cond, _&&_}
 use mathlib.Core.List.{List, [], _∷_}
 use lib.Dec.{leb, eqb}
-use Rattle.text.specs.Text.{textOf, meantBy}
 use Rattle.dots.specs.declared.phase.Phase.the-variants.{Plain, Dark}
+use Rattle.text.specs.Text.{textOf, meantBy}
 use Rattle.drawing.specs.declared.form.Form.the-variants.{Text, Image}
 use Rattle.view.specs.declared.words.Asked.{Asked}
 use Rattle.view.specs.declared.words.Asked.the-variants.{View, Usage}

@@ -1,7 +1,7 @@
 // What is printed, put at the front of a lent buffer that has room for the longest drawing.
+ghost use Prim.Native.Nat.{_≤_};
 ghost use mathlib.Core.Path.{_≡_};
 ghost use mathlib.Core.Bool.{true};
-ghost use Prim.Native.Nat.{_≤_};
 ghost use lib.ListN.{length};
 ghost use Rattle.lent.specs.Put.{Puts};
 ghost use Rattle.controller.specs.Part.{inRange};

@@ -1,3 +1,4 @@
+-- Each return's tests decide the list of refusals; the last draws over the front of the buffer.
 use mathlib.Core.Path.{_≡_, refl, sym, _∙_}
 use mathlib.Core.Bool.{true}
 use native.Mathlib.Omega.{arith}
@@ -15,7 +16,7 @@ use Rattle.picture.proofs.picture.Tie as tie
 
 -- what the first two tests tell
 abbrev start : tie.Else1 → tie.Start
-start c = c .before .before .before .before .before
+start c = let tested = c .before in tested .before .before .before .before
 
 abbrev range : tie.Else2 → tie.Else1
 range c = c .before .before .before

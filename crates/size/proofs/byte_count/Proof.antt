@@ -1,3 +1,4 @@
+-- Two lines of 11 rows of 255 digits leave the product within a machine number.
 use Prim.Native.Nat.{_≤_}
 use native.Mathlib.Nat.{mul-le-mul}
 use native.Mathlib.Omega.{arith}

@@ -1,3 +1,4 @@
+-- The two tests are those of the definition, with the callee's number put in.
 use borrow.Author.Needs.{needs}
 use Rattle.size.specs.Size.{hasDigits}
 use Rattle.size.proofs.has_digits.Statement.{statement}

@@ -1,3 +1,4 @@
+-- Each arm and branch is a clause of the definition.
 use borrow.Author.Needs.{needs}
 use Rattle.size.specs.Size.{rowsIn}
 use Rattle.size.proofs.row_count.Statement.{statement}

@@ -1,3 +1,4 @@
+-- Both ways call draw_rows; with 11 rows the number is put in for the variable.
 use Prim.Native.Nat.{ℕ, _*_}
 use mathlib.Core.Path.{ap, _∙_}
 use native.Mathlib.Omega.{arith}

@@ -1,3 +1,4 @@
+-- The loop fills one column, a row a turn.
 use Prim.Native.Nat.{ℕ, _-_, _%_, _<_}
 use mathlib.Core.Path.{ap}
 use native.Mathlib.Nat.{mul-le-mul}

@@ -1,3 +1,4 @@
+-- The tests are those of the definition; each index is below the length of its memory.
 use borrow.Author.Needs.{needs}
 use borrow.Author.Tests.{lt-ltb, le-ltb, eq-eqb, ne-eqb}
 use Rattle.dots.specs.Dots.{patternOf, characterAt}

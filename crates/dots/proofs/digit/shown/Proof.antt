@@ -1,3 +1,4 @@
+-- Each line mode bounds shift, line and digit, so that the sums fit and the cell exists.
 use Prim.Native.Nat.{_<_}
 use native.Mathlib.Omega.{arith}
 use borrow.Author.Needs.{needs}

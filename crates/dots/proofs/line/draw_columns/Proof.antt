@@ -1,13 +1,14 @@
+-- The loop adds a column a turn: the one of the cell that the digit shows.
 use Prim.Native.Nat.{_-_, _%_}
 use mathlib.Core.Path.{_∙_}
 use native.Mathlib.Nat.{lt-of-lt-of-le}
 use native.Mathlib.Omega.{arith}
 use lib.ListN.{getD}
 use borrow.Author.Needs.{needs}
+use Rattle.size.proofs.Sizes.{most-small}
 use Rattle.dots.specs.Digit.{shownOn}
 use Rattle.dots.specs.Dots.{patternOf}
 use Rattle.dots.proofs.Columns.{Columns, columns-start, columns-next}
-use Rattle.size.proofs.Sizes.{most-small}
 use Rattle.dots.proofs.line.draw_columns.Statement.{statement}
 use Rattle.dots.proofs.line.draw_columns.Tie as tie
 

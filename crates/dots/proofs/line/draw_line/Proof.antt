@@ -1,19 +1,20 @@
+-- All patterns, and the marked column over them, are the rows of the definition.
 use Prim.Native.Nat.{ℕ, _*_, _≤_}
 use mathlib.Core.Path.{_≡_, ap, sym, _∙_}
 use native.Mathlib.Omega.{arith}
 use lib.ListN.{length}
 use denote.Ref.{now}
 use borrow.Author.Needs.{needs}
-use Rattle.dots.proofs.Dots.{line-marked, line-unmarked}
 use Rattle.size.proofs.Sizes.{most-small}
+use Rattle.dots.proofs.Dots.{line-marked, line-unmarked}
 use Rattle.dots.proofs.line.draw_line.Statement.{statement}
 use Rattle.dots.proofs.line.draw_line.Tie as tie
 
 abbrev start : tie.After-row-count → tie.Start
-start c = c .before .before .before .before .before .before
+start c = let copied = c .before .before .before in copied .before .before .before
 
 abbrev counted : tie.After-draw-columns → tie.After-row-count
-counted c = c .before .before .before .before .before
+counted c = let lent = c .before .before in lent .before .before .before
 
 -- the line has room for its rows, and no more than 80 digits
 room : (c : tie.After-row-count) → length (now (start c .args .out)) ≡ c .row-count .result * start c .args .digits
@@ -36,7 +37,8 @@ new-requires c κs = search needs
 
 draw-mark-requires : tie.Need-draw-mark-requires
 draw-mark-requires c κs =
-    let at-columns = c .before .before .before .before .before .before in
+    let at-new = c .before .before .before in
+    let at-columns = at-new .before .before .before in
     let at-rows = counted at-columns in
     (at-rows .row-count .ensures .2, few at-rows, c .before .if1 .taken, (search needs) ∙ room at-rows)
 

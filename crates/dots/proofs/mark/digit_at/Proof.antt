@@ -1,12 +1,13 @@
+-- An address that exists marks the digit that shows its cell, if it is of this line; any other marks none.
 use Prim.Native.Nat.{_<_}
 use mathlib.Core.Path.{sym, _∙_}
 use native.Mathlib.Omega.{arith}
 use lib.Dec.{T}
 use borrow.Author.Needs.{needs}
 use borrow.Author.Tests.{not-true, not-false}
+use Rattle.condition.proofs.Tests.{holds}
 use Rattle.counters.specs.Address.{display, hasDisplay}
 use Rattle.counters.proofs.Laws.{cell-exists}
-use Rattle.condition.proofs.Tests.{holds}
 use Rattle.size.proofs.Sizes.{most-small, most-two}
 use Rattle.dots.proofs.Marks.{digit-one, digit-two, marked-cell, marked-none, marked-elsewhere}
 use Rattle.dots.proofs.mark.digit_at.Statement.{statement}
@@ -37,7 +38,9 @@ add-result : tie.Need-add-result
 add-result c = omega (arith, small (c .before .before))
 
 sub-result : tie.Need-sub-result
-sub-result c = omega (arith, most-small (c .before .before .before .before .before .args .lines))
+sub-result c =
+    let at-cell = c .before .before in
+    omega (arith, most-small (at-cell .before .before .before .args .lines))
 
 enum-told-2 : tie.Need-enum-told-2
 enum-told-2 c = search needs

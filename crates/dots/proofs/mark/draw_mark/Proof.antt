@@ -1,3 +1,4 @@
+-- The loop fills the marked digit's column, a row a turn, from the bytes that still wait there.
 use Prim.Native.Nat.{_+_, _*_, _-_, _<_}
 use mathlib.Core.Bool.{cond}
 use native.Mathlib.Nat.{le-refl, mul-le-mul}

@@ -1,3 +1,4 @@
+-- Each arm of the match is a clause of the definition.
 use borrow.Author.Needs.{needs}
 use Rattle.dots.specs.Dots.{isDark}
 use Rattle.dots.proofs.mark.is_dark.Statement.{statement}

@@ -1,3 +1,4 @@
+-- The callees' sizes are put in.
 use borrow.Author.Needs.{needs}
 use Rattle.drawing.specs.Contracts.{sizeOf}
 use Rattle.drawing.proofs.extent.byte_size.Statement.{statement}

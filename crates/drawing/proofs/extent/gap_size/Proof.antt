@@ -1,5 +1,6 @@
-use borrow.Author.Needs.{needs}
+-- Each arm of the match is a clause of the definition.
 use mathlib.Core.Path.{_∙_}
+use borrow.Author.Needs.{needs}
 use Rattle.drawing.specs.Contracts.{gapSize}
 use Rattle.drawing.proofs.extent.gap_size.Statement.{statement}
 use Rattle.drawing.proofs.extent.gap_size.Tie as tie

@@ -1,5 +1,6 @@
-use borrow.Author.Needs.{needs}
+-- The parts of an image's head are counted.
 use native.Mathlib.Omega.{arith}
+use borrow.Author.Needs.{needs}
 use Rattle.drawing.specs.Drawing.{headOf}
 use Rattle.drawing.proofs.Lengths.{length-head}
 use Rattle.drawing.proofs.extent.head_size.Statement.{statement}

@@ -1,6 +1,7 @@
-use borrow.Author.Needs.{needs}
+-- 11 rows of 480 bytes leave the product within a machine number.
 use native.Mathlib.Omega.{arith}
 use native.Mathlib.Nat.{mul-le-mul}
+use borrow.Author.Needs.{needs}
 use Rattle.drawing.proofs.extent.line_size.Statement.{statement}
 use Rattle.drawing.proofs.extent.line_size.Tie as tie
 

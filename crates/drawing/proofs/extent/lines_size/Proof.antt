@@ -1,3 +1,4 @@
+-- Each arm of the match is a clause of the definition, with the callees' sizes put in.
 use borrow.Author.Needs.{needs}
 use Rattle.drawing.specs.Contracts.{linesSize}
 use Rattle.drawing.proofs.extent.lines_size.Statement.{statement}

@@ -1,3 +1,4 @@
+-- The loop puts a row a turn behind those already there.
 use Prim.Native.Nat.{_+_, _*_, _-_, _≤_}
 use mathlib.Core.Path.{_≡_, refl, sym, _∙_}
 use native.Mathlib.Nat.{suc-mul, zero-mul, mul-le-mul-right, le-antisymm}
@@ -69,13 +70,16 @@ part-draw-row-end-2 : tie.Need-part-draw-row-end-2 Inv-loop μ-loop
 part-draw-row-end-2 c = omega (arith, room (c .before))
 
 draw-row-requires : tie.Need-draw-row-requires Inv-loop μ-loop
-draw-row-requires c κs = let in-loop = c .before .before in
+draw-row-requires c κs =
+    let in-loop = c .before .before in
     let at-loop = in-loop .before in
     let l = start at-loop in
     (l .pre .0, l .pre .1, rw rest-lent (simp length-drop (omega (arith, there in-loop))), length-lent _ (at-loop .loop .at) (at-loop .loop .out) (omega (arith, room in-loop)) ∙ at-loop .before .row-size .ensures .0)
 
 add-from : tie.Need-add-from Inv-loop μ-loop
-add-from c = omega (arith, there (c .before .before .before .before .before))
+add-from c =
+    let at-call = c .before .before in
+    omega (arith, there (at-call .before .before .before))
 
 add-row : tie.Need-add-row Inv-loop μ-loop
 add-row c = search needs
@@ -84,7 +88,8 @@ loop-less : tie.Need-loop-less Inv-loop μ-loop
 loop-less c = search needs
 
 loop-again : tie.Need-loop-again Inv-loop μ-loop
-loop-again c = let at-call = c .before .before in
+loop-again c =
+    let at-call = c .before .before in
     let at-loop = at-call .before .before .before .before in
     let l = start at-loop in
     let i = at-loop .loop in

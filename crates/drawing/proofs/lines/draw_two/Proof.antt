@@ -1,4 +1,4 @@
-use borrow.Author.Needs.{needs}
+-- Three parts lent one behind the other fill the buffer.
 use Prim.Native.Nat.{ℕ, _+_, _*_}
 use mathlib.Core.Path.{_≡_, ap, sym, _∙_}
 use native.Mathlib.Nat.{zero-mul, one-mul, mul-le-mul}
@@ -6,8 +6,9 @@ use native.Mathlib.Omega.{arith}
 use lib.ListN.{length, length-drop}
 use lib.Seq.{length-take-le}
 use denote.Ref.{now}
-use Rattle.drawing.specs.Drawing.{between}
+use borrow.Author.Needs.{needs}
 use Rattle.lent.proofs.Returned.{three-put}
+use Rattle.drawing.specs.Drawing.{between}
 use Rattle.drawing.proofs.Lengths.{length-gap, length-line, rest-lent}
 use Rattle.drawing.proofs.lines.draw_two.Statement.{statement}
 use Rattle.drawing.proofs.lines.draw_two.Tie as tie
@@ -17,6 +18,10 @@ whole : (c : tie.After-gap-size) →
     let end = c .before .before .before .before .args .rows * c .before .row-size .result in
     length (now (c .before .before .before .before .args .out)) ≡ end + (c .gap-size .result + end)
 whole c = rw (c .before .row-size .ensures .0, c .gap-size .ensures .0) (c .before .before .before .before .pre .4)
+
+-- past the gap: what is known of the sizes
+abbrev sized : tie.After-draw-gap → tie.After-gap-size
+sized c = let first = c .before .before .before .before in first .before .before
 
 row-size-requires : tie.Need-row-size-requires
 row-size-requires c κs = search needs
@@ -37,8 +42,10 @@ slice-aggregate-draw-line : tie.Need-slice-aggregate-draw-line
 slice-aggregate-draw-line c = sym (length-take-le _ _ (omega (arith, whole (c .before))))
 
 draw-line-requires : tie.Need-draw-line-requires
-draw-line-requires c κs = let l = c .before .before .before .before .before in
-    (l .pre .0, l .pre .1, l .pre .2, search needs, omega (arith, zero-mul (l .args .rows * l .args .digits), l .pre .3), length-take-le _ _ (omega (arith, whole (c .before))) ∙ ap (λ (n : ℕ). l .args .rows * n) (c .before .before .row-size .ensures .0))
+draw-line-requires c κs =
+    let sizes = c .before in
+    let l = sizes .before .before .before .before in
+    (l .pre .0, l .pre .1, l .pre .2, search needs, omega (arith, zero-mul (l .args .rows * l .args .digits), l .pre .3), length-take-le _ _ (omega (arith, whole sizes)) ∙ ap (λ (n : ℕ). l .args .rows * n) (sizes .before .row-size .ensures .0))
 
 sub-draw-gap : tie.Need-sub-draw-gap
 sub-draw-gap c = search needs
@@ -53,18 +60,19 @@ draw-gap-requires : tie.Need-draw-gap-requires
 draw-gap-requires c κs = search needs
 
 sub-draw-line : tie.Need-sub-draw-line
-sub-draw-line c = omega (arith, whole (c .before .before .before .before .before .before .before .before))
+sub-draw-line c = omega (arith, whole (sized (c .before .before)))
 
 part-draw-line-start : tie.Need-part-draw-line-start
-part-draw-line-start c = omega (arith, whole (c .before .before .before .before .before .before .before .before))
+part-draw-line-start c = omega (arith, whole (sized (c .before .before)))
 
 part-draw-line-end : tie.Need-part-draw-line-end
 part-draw-line-end c = search needs
 
 draw-line-requires-2 : tie.Need-draw-line-requires-2
-draw-line-requires-2 c κs = let l = c .before .before .before .before .before .before .before .before .before .before .before .before .before in
+draw-line-requires-2 c κs =
+    let sizes = sized (c .before .before .before) in
+    let l = sizes .before .before .before .before in
     let lines = l .args .rows * l .args .digits in
-    let sizes = c .before .before .before .before .before .before .before .before .before in
     (l .pre .0, l .pre .1, l .pre .2, search needs, omega (arith, one-mul lines, l .pre .3), rw rest-lent (simp length-drop (omega (arith, whole sizes))) ∙ ap (λ (n : ℕ). l .args .rows * n) (sizes .before .row-size .ensures .0))
 
 same-length : tie.Need-same-length
@@ -72,7 +80,8 @@ same-length c = search needs
 
 returns : tie.Need-returns
 unfolding between
-returns c = let third = c .before .before in
+returns c =
+    let third = c .before .before in
     let second = third .before .before .before .before in
     let first = second .before .before .before .before in
     let sizes = first .before .before in

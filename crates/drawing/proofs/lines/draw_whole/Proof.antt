@@ -1,13 +1,14 @@
-use borrow.Author.Needs.{needs}
+-- The lines are drawn behind the head.
 use Prim.Native.Nat.{_+_, _*_}
 use mathlib.Core.Path.{_≡_}
 use native.Mathlib.Omega.{arith}
 use lib.ListN.{length, length-drop}
 use denote.Ref.{now}
+use borrow.Author.Needs.{needs}
+use Rattle.lent.proofs.Returned.{behind-put}
 use Rattle.size.specs.Size.{rowsOf}
 use Rattle.drawing.specs.Drawing.{headOf, drawingOf}
 use Rattle.drawing.specs.Contracts.{rowSize, gapSize, linesSize, sizeOf}
-use Rattle.lent.proofs.Returned.{behind-put}
 use Rattle.drawing.proofs.Lengths.{rest-lent}
 use Rattle.drawing.proofs.lines.draw_whole.Statement.{statement}
 use Rattle.drawing.proofs.lines.draw_whole.Tie as tie
@@ -44,17 +45,23 @@ part-draw-lines-end : tie.Need-part-draw-lines-end
 part-draw-lines-end c = search needs
 
 draw-lines-requires : tie.Need-draw-lines-requires
-draw-lines-requires c κs = let l = c .before .before .before .before .before .before .before .before .before in (l .pre .0, l .pre .1, l .pre .2, rw rest-lent (simp length-drop (omega (arith, whole (c .before .before .before .before .before)))))
+draw-lines-requires c κs =
+    let at-head = c .before .before .before in
+    let sizes = at-head .before .before in
+    let l = sizes .before .before .before .before in
+    (l .pre .0, l .pre .1, l .pre .2, rw rest-lent (simp length-drop (omega (arith, whole sizes))))
 
 same-length : tie.Need-same-length
 same-length c = search needs
 
 returns : tie.Need-returns
 unfolding drawingOf
-returns c = let at-head = c .before .before .before .before .before .before in
+returns c =
+    let at-call = c .before .before in
+    let at-head = at-call .before .before .before .before in
     let sizes = at-head .before .before in
     rw (← sizes .before .width .ensures .0, ← sizes .height .ensures .0)
-    (behind-put _ _ _ _ _ _ (at-head .put-head .ensures) (c .before .before .draw-lines .ensures))
+    (behind-put _ _ _ _ _ _ (at-head .put-head .ensures) (at-call .draw-lines .ensures))
 
 pub draw-whole-spec : {M : Type 1} → statement M
 draw-whole-spec =

@@ -1,3 +1,4 @@
+-- The loop fills the buffer, a byte of eight bits a turn.
 use Prim.Native.Nat.{_+_, _*_, _-_}
 use lib.ListN.{length, getD}
 use borrow.Author.Needs.{needs}

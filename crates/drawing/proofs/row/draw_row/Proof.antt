@@ -1,8 +1,9 @@
-use borrow.Author.Needs.{needs}
+-- Each form's row is what its callee draws.
 use Prim.Native.Nat.{_*_}
 use mathlib.Core.Path.{_≡_}
 use lib.ListN.{length}
 use denote.Ref.{now}
+use borrow.Author.Needs.{needs}
 use Rattle.drawing.specs.Drawing.{rowIn}
 use Rattle.drawing.specs.Contracts.{rowSize}
 use Rattle.drawing.proofs.row.draw_row.Statement.{statement}
@@ -13,14 +14,21 @@ enum-told c = search needs
 
 draw-text-requires : tie.Need-draw-text-requires
 unfolding rowSize
-draw-text-requires c κs = let l = c .before .before .before .before .before in let size : length (now (l .args .out)) ≡ 6 * l .args .digits = rw (c .before .enum-told .given .1) at (l .pre .3) in search needs
+draw-text-requires c κs =
+    let told = c .before in
+    let l = told .before .before .before .before in
+    let size : length (now (l .args .out)) ≡ 6 * l .args .digits = rw (told .enum-told .given .1) at (l .pre .3) in
+    search needs
 
 enum-told-2 : tie.Need-enum-told-2
 enum-told-2 c = search needs
 
 draw-bits-requires : tie.Need-draw-bits-requires
 unfolding rowSize
-draw-bits-requires c κs = let l = c .before .before .before .before .before in (l .pre .0, l .pre .1, l .pre .2, rw (c .before .enum-told2 .given .1) at (l .pre .3))
+draw-bits-requires c κs =
+    let told = c .before in
+    let l = told .before .before .before .before in
+    (l .pre .0, l .pre .1, l .pre .2, rw (told .enum-told2 .given .1) at (l .pre .3))
 
 same-length : tie.Need-same-length
 same-length c = search needs

@@ -1,3 +1,4 @@
+-- The loop fills the buffer with marks, a column a turn, and leaves room for the line end.
 use Prim.Native.Nat.{_-_, _/_, _%_, _≤_}
 use native.Mathlib.Nat.{le-antisymm}
 use lib.ListN.{getD, length-set}

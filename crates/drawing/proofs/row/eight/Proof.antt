@@ -1,3 +1,4 @@
+-- The loop packs a bit a turn; what is packed so far is below a power of two.
 use Prim.Native.Nat.{_+_, _-_, _^_, _≤_, _<_}
 use mathlib.Core.Path.{_≡_, refl}
 use native.Mathlib.Nat.{le-antisymm}

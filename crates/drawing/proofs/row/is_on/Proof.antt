@@ -1,3 +1,4 @@
+-- The test of the column decides the definition.
 use borrow.Author.Needs.{needs}
 use borrow.Author.Tests.{lt-ltb, le-ltb}
 use Rattle.drawing.specs.Row.{isOn}

@@ -1,3 +1,4 @@
+-- The loop fills the buffer with zeros, a byte a turn.
 use Prim.Native.Nat.{_-_}
 use mathlib.Core.Path.{refl, _∙_}
 use lib.ListN.{length}

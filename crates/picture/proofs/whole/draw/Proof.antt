@@ -1,3 +1,4 @@
+-- With the display on the lines are drawn; off, the picture is all zeros.
 use Prim.Native.Nat.{ℕ}
 use mathlib.Core.Path.{ap, sym, _∙_}
 use lib.ListN.{replicate}
@@ -24,7 +25,8 @@ same-length-2 c = search needs
 returns-2 : tie.Need-returns-2
 returns-2 c =
     let at-off = c .before .before .before .before in
-    let l = at-off .before .before .before .before .before in
+    let copied = at-off .before .before in
+    let l = copied .before .before .before in
     c .before .before .blank .ensures ∙ ap (λ (n : ℕ). replicate n 0) (l .pre .1) ∙ sym (off-dots _ _ _ _ (at-off .if1 .left))
 
 pub draw-spec : {M : Type 1} → statement M

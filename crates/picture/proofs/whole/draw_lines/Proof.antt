@@ -1,3 +1,4 @@
+-- The loop puts a line a turn behind those already there.
 use Prim.Native.Nat.{ℕ, _+_, _*_, _-_, _≤_}
 use mathlib.Core.Path.{_≡_, refl, ap, sym, _∙_}
 use native.Mathlib.Nat.{suc-mul, mul-assoc, mul-le-mul, mul-le-mul-right, le-antisymm}
@@ -5,10 +6,10 @@ use native.Mathlib.Omega.{arith}
 use lib.ListN.{length}
 use denote.Ref.{now}
 use borrow.Author.Needs.{needs}
+use Rattle.lent.proofs.Lists.{length-parts, length-values, length-lent, Taken, taken-start, taken-next, taken-whole}
 use Rattle.size.specs.Size.{rowsOf}
 use Rattle.dots.specs.Dots.{lineOf}
 use Rattle.picture.specs.Picture.{pictureOf}
-use Rattle.lent.proofs.Lists.{length-parts, length-values, length-lent, Taken, taken-start, taken-next, taken-whole}
 use Rattle.picture.proofs.whole.draw_lines.Statement.{statement}
 use Rattle.picture.proofs.whole.draw_lines.Tie as tie
 
@@ -21,7 +22,7 @@ abbrev μ-loop : tie.MeasureT-loop
 
 -- what is known once the rows are counted
 abbrev start : tie.After-row-count Inv-loop μ-loop → tie.Start Inv-loop μ-loop
-start c = c .before .before .before .before .before .before
+start c = let copied = c .before .before .before in copied .before .before .before
 
 abbrev bytes : tie.After-row-count Inv-loop μ-loop → ℕ
 bytes c = c .row-count .result * start c .args .digits

@@ -1,3 +1,4 @@
+-- The loop reads a digit a turn; a character that is none, or a count above 255, ends it.
 use Prim.Native.Nat.{_-_}
 use mathlib.Core.Path.{refl}
 use native.Mathlib.Nat.{le-antisymm}
@@ -38,7 +39,9 @@ add-count : tie.Need-add-count Inv-loop μ-loop
 add-count c = search needs
 
 returns-4 : tie.Need-returns-4 Inv-loop μ-loop
-returns-4 c = grown-large _ _ _ (c .before .before .before .before .before .loop .inv) (search needs) (c .if4 .taken)
+returns-4 c =
+    let at-digit = c .before in
+    grown-large _ _ _ (at-digit .before .before .before .before .loop .inv) (search needs) (c .if4 .taken)
 
 add-i : tie.Need-add-i Inv-loop μ-loop
 add-i c = search needs
@@ -47,7 +50,9 @@ loop-less : tie.Need-loop-less Inv-loop μ-loop
 loop-less c = search needs
 
 loop-again : tie.Need-loop-again Inv-loop μ-loop
-loop-again c = counted-next _ _ _ (c .before .before .before .before .before .loop .inv) (search needs) (c .before .before .if2 .left) (c .before .if3 .left) (c .if4 .left)
+loop-again c =
+    let at-digit = c .before in
+    counted-next _ _ _ (at-digit .before .before .before .before .loop .inv) (search needs) (at-digit .before .if2 .left) (at-digit .if3 .left) (c .if4 .left)
 
 cast-t13 : tie.Need-cast-t13 Inv-loop μ-loop
 cast-t13 c = search needs

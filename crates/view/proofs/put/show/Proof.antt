@@ -1,10 +1,11 @@
-use borrow.Author.Needs.{needs}
+-- The picture's number decides; where it is 0 its dots are there, and their drawing has room.
 use Prim.Native.Nat.{ℕ}
 use mathlib.Core.Path.{_≡_, ap, sym, _∙_}
 use mathlib.Core.List.{List}
 use native.Mathlib.Omega.{arith}
 use lib.ListN.{length, take, replicate, length-take, length-replicate}
 use denote.Ref.{now}
+use borrow.Author.Needs.{needs}
 use Rattle.size.specs.Size.{mostBytes}
 use Rattle.picture.specs.Picture.{pictureOf}
 use Rattle.picture.specs.Answers.{answerFor}
@@ -15,7 +16,7 @@ use Rattle.view.proofs.put.show.Statement.{statement}
 use Rattle.view.proofs.put.show.Tie as tie
 
 abbrev start : tie.After-picture → tie.Start
-start c = c .before .before .before .before .before .before
+start c = let copied = c .before .before .before in copied .before .before .before
 
 -- the dots before they are drawn
 abbrev blank : List ℕ
@@ -59,9 +60,11 @@ same-length : tie.Need-same-length
 same-length c = search needs
 
 returns : tie.Need-returns
-returns c = let at-number = c .before .before .before .before .before in
+returns c =
+    let tested = c .before .before .before .before in
+    let at-number = tested .before in
     let l = start (at-number .before .before) in
-    refusal-puts _ (l .args .digits) (l .args .phase) (l .args .form) (now (l .args .rom)) blank (l .pre .0) room _ _ _ _ (answered at-number) (c .before .before .before .before .if1 .taken) (c .before .before .put-refused .ensures)
+    refusal-puts _ (l .args .digits) (l .args .phase) (l .args .form) (now (l .args .rom)) blank (l .pre .0) room _ _ _ _ (answered at-number) (tested .if1 .taken) (c .before .before .put-refused .ensures)
 
 byte-count-requires : tie.Need-byte-count-requires
 byte-count-requires c κs = search needs
@@ -82,10 +85,12 @@ same-length-2 : tie.Need-same-length-2
 same-length-2 c = search needs
 
 returns-2 : tie.Need-returns-2
-returns-2 c = let at-bytes = c .before .before .before .before .before .before in
+returns-2 c =
+    let at-draw = c .before .before .before in
+    let at-bytes = at-draw .before .before .before in
     let at-number = at-bytes .before .before in
     let l = start (at-number .before .before) in
-    drawing-puts (l .args .controller) (l .args .digits) (l .args .phase) _ (now (l .args .rom)) blank (l .pre .0) room (sym (answered at-number) ∙ at-bytes .before .if1 .left) _ _ _ _ _ (there at-bytes) (l .pre .1) (c .before .before .before .draw .ensures) (c .value .ensures)
+    drawing-puts (l .args .controller) (l .args .digits) (l .args .phase) _ (now (l .args .rom)) blank (l .pre .0) room (sym (answered at-number) ∙ at-bytes .before .if1 .left) _ _ _ _ _ (there at-bytes) (l .pre .1) (at-draw .draw .ensures) (c .value .ensures)
 
 pub show-spec : {M : Type 1} → statement M
 show-spec =

@@ -1,3 +1,4 @@
+-- The loop compares a letter a turn; the letters before it are the same.
 use Prim.Native.Nat.{_-_, _≤_}
 use mathlib.Core.Path.{_≡_, refl, sym, _∙_}
 use native.Mathlib.Nat.{le-antisymm}

@@ -1,3 +1,4 @@
+-- What each word means decides the definition, word by word.
 use borrow.Author.Needs.{needs}
 use Rattle.view.specs.Words.{askedOf, askedBy}
 use Rattle.view.proofs.words.asked_by.Statement.{statement}
@@ -36,13 +37,15 @@ returns c = rw (← c .before .before .count-in .ensures, c .enum-told .given .1
 
 returns-2 : tie.Need-returns-2
 unfolding askedOf askedBy
-returns-2 c = let at-phase = c .before .before in
+returns-2 c =
+    let at-phase = c .before .before in
     let at-digits = at-phase .before .before in
     rw (← at-digits .before .before .count-in .ensures, at-digits .digits .given .1, ← at-phase .phase-in .ensures, c .enum-told2 .given .1)
 
 returns-3 : tie.Need-returns-3
 unfolding askedOf askedBy
-returns-3 c = let at-form = c .before .before in
+returns-3 c =
+    let at-form = c .before .before in
     let in-phase = at-form .before .before in
     let at-phase = in-phase .before .before in
     let at-digits = at-phase .before .before in
@@ -50,7 +53,8 @@ returns-3 c = let at-form = c .before .before in
 
 returns-4 : tie.Need-returns-4
 unfolding askedOf askedBy
-returns-4 c = let in-form = c .before in
+returns-4 c =
+    let in-form = c .before in
     let at-form = in-form .before .before in
     let in-phase = at-form .before .before in
     let at-phase = in-phase .before .before in

@@ -1,3 +1,4 @@
+-- Field by field; the digit found is the marked one by what digit_at tells.
 use mathlib.Core.Path.{refl}
 use borrow.Author.Needs.{needs}
 use Rattle.dots.specs.Dots.{isMarked}

@@ -1,3 +1,4 @@
+-- The code is the definition.
 use mathlib.Core.Path.{refl}
 use borrow.Author.Needs.{needs}
 use Rattle.dots.specs.Dots.{isSet}
