@@ -12,7 +12,7 @@ use Rattle.drawing.specs.declared.form.Form.{Form}
 use Rattle.drawing.specs.declared.form.Form.the-variants.{Text, Image}
 use Rattle.drawing.specs.Row.{widthOf, textRow, imageRow}
 
--- one blank row between the screen's lines
+-- one blank row between the picture's lines
 abbrev pub heightOf : Mode → ℕ
 heightOf mode = linesOf (mode .lines) * rowsOf mode + (linesOf (mode .lines) - 1)
 
@@ -27,7 +27,7 @@ unfoldable pub rowIn : Form → (digits : ℕ) (byte : ℕ → ℕ) → List ℕ
 rowIn Text = textRow
 rowIn Image = imageRow
 
--- what stands between the two lines of the screen: an empty line, or a row with no dot on
+-- what stands between the two lines of the picture: an empty line, or a row with no dot on
 unfoldable pub gapIn : Form → (digits : ℕ) → List ℕ
 gapIn Text digits = textOf "\n"
 gapIn Image digits = imageRow digits (λ digit. 0)

@@ -52,7 +52,7 @@ pub(crate) fn gap_size(form: Form, digits: usize) -> usize
     }
 }
 
-// All rows of one line of the screen.
+// All rows of one line of the picture.
 fn line_size(form: Form, mode: Mode, digits: usize) -> usize
     requires { ⌜ (1 ≤ digits) × (digits ≤ 80) ⌝ }
     ensures { λ r. ⌜ (r ≡ rowsOf mode * rowSize form digits) × (r ≤ mostDrawn) ⌝ }

@@ -1,4 +1,4 @@
-// The lines of the screen, one behind the other.
+// The lines of the picture, one behind the other.
 ghost use Prim.Native.Nat.{_+_, _*_, _≤_};
 ghost use mathlib.Core.Path.{_≡_};
 ghost use lib.ListN.{length};

@@ -92,7 +92,7 @@ pub(crate) fn draw_row(form: Form, digits: usize, dots: &[u8], out: &mut [u8])
     }
 }
 
-// What stands between the two lines of the screen.
+// What stands between the two lines of the picture.
 pub(crate) fn draw_gap(form: Form, digits: usize, out: &mut [u8])
     requires { ⌜ (1 ≤ digits) × (digits ≤ 80) × (length (now out) ≡ gapSize form digits) ⌝ }
     ensures { λ _. ⌜ now (out .exit) ≡ gapIn form digits ⌝ }
