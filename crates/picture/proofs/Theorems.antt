@@ -6,12 +6,12 @@ use mathlib.Core.List.{List, [], _∷_, _++_}
 use native.Mathlib.Nat.{mul-assoc, add-mul, add-assoc}
 use native.Mathlib.Omega.{arith}
 use lib.Arith.{digits-lt}
-use lib.Dec.{eqb, ltb, ltb→lt, nltb→le}
+use lib.Dec.{T, ltb, ltb→lt, nltb→le}
 use lib.ListN.{length, drop, getD, length-append, length-drop, List·getD-append}
 use lib.Seq.{getD-drop, getD-append-add, getD-set-other}
 use borrow.Author.Tests.{ne-eqb}
-use Rattle.condition.specs.First.{firstOf, ExactlyFrom, absent, distinct}
-use Rattle.condition.proofs.Tests.{split, and-right}
+use Rattle.condition.specs.First.{Rule, firstOf, absent, distinct}
+use Rattle.condition.proofs.Tests.{split, and-left, and-right}
 use Rattle.condition.proofs.First.{first-given-exactly}
 use Rattle.counters.specs.declared.LineMode.the-variants.{Two}
 use Rattle.counters.specs.declared.address.Cell.{Cell}
@@ -24,10 +24,10 @@ use Rattle.lent.proofs.Lists.{length-parts, length-values, parts-same, parts-at
 use Rattle.controller.specs.declared.Controller.{Controller}
 use Rattle.controller.specs.declared.registers.Mode.{Mode}
 use Rattle.controller.specs.Part.{inRange}
-use Rattle.size.specs.Size.{linesOf, hasDigits, rowsOf, bytesOf}
+use Rattle.size.specs.Size.{linesOf, rowsOf, bytesOf}
 use Rattle.dots.specs.declared.phase.Phase.{Phase}
 use Rattle.dots.specs.Digit.{shownOn}
-use Rattle.dots.specs.Dots.{imageSize, isMarked, fiveOf, cellDots, dotsAt, lineOf}
+use Rattle.dots.specs.Dots.{isMarked, fiveOf, cellDots, dotsAt, lineOf}
 use Rattle.picture.specs.declared.Answer.the-variants.{Done}
 use Rattle.picture.specs.Picture.{pictureOf}
 use Rattle.picture.specs.Answers.{refusals, answerFor, bufferFor, Pictured}
@@ -62,13 +62,28 @@ byte-by-byte c digits rom phase out left p line row digit hl hr hd =
     (List·getD-append (pictureOf c digits rom phase) _ 0 _ (rw length-picture (digits-lt (digits-lt hl hr) hd))
     ∙ picture-at c digits rom phase line row digit hl hr hd)
 
--- a call that is done found none of its conditions, so its buffer had room
+-- a call that is done found none of its conditions
+abbrev Unmet : List Rule → Type 0
+Unmet [] = T true
+Unmet (rule ∷ rules) = T (not (rule .condition)) × Unmet rules
+
+abbrev positive : List Rule → Bool
+positive [] = true
+positive (rule ∷ rules) = ltb 0 (rule .number) && positive rules
+
+unmet : (rules : List Rule) → T (positive rules) → firstOf rules 0 ≡ 0 → Unmet rules
+unfolding firstOf
+unmet [] t = λ e. tt
+unmet (rule ∷ rules) t =
+    split (λ (n : ℕ). n ≡ 0 → Unmet (rule ∷ rules)) (rule .condition)
+    (λ u e. absurd (omega (arith, ltb→lt 0 (rule .number) (and-left (ltb 0 (rule .number)) (positive rules) t))))
+    (λ u e. (u, unmet rules (and-right (ltb 0 (rule .number)) (positive rules) t) e))
+
+-- so its buffer had room
 has-room : (c : Controller) (digits : ℕ) (rom : List ℕ) (phase : Phase) (out left : List ℕ) → Pictured c digits rom phase out Done left → bytesOf (c .registers .mode) digits ≤ length out
-unfolding answerFor refusals ExactlyFrom
+unfolding answerFor refusals
 has-room c digits rom phase out left p =
-    let none : Bool = (not (not (inRange (c .registers))) && not (not (hasDigits (c .registers .mode .lines) digits))) && not (not (eqb (length rom) imageSize)) in
-    let short : Bool = ltb (length out) (bytesOf (c .registers .mode) digits) in
-    nltb→le (length out) (bytesOf (c .registers .mode) digits) (and-right none (not short) (picture-given-exactly c digits rom phase out Done left p .1 .1 .1 .1 .0 refl))
+    nltb→le (length out) (bytesOf (c .registers .mode) digits) (unmet (refusals c digits (length rom) (length out)) tt (sym (p .number)) .1 .1 .1 .0)
 
 over-behind : (new out : List ℕ) (k : ℕ) → length new ≤ k → getD (over new out) k 0 ≡ getD out k 0
 unfolding over
