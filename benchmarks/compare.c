@@ -1,14 +1,14 @@
 /* The proved code beside the C model.
 
-       compare time RECORD...             both sides of each record, and the ratio
-       compare pass SIDE RECORD PASSES    passes of one side (proved or c) alone, for counting instructions
+       compare time RECORD                  both sides' time in nanoseconds, and the proved code's rate in C's
+       compare pass SIDE RECORD PASSES      passes of one side (proved or c) alone, for counting instructions
 
-   A record named wide or tall is a screen: what is measured is its picture, all digits, in the dark phase. Its record
-   is run before each picture, so the time of the same call with no digits, which is refused, is taken off. All
-   results are compared with the other side's before anything is measured, and no pass can be left out: the two
-   sides are compiled apart from this file. */
+   What is measured of a record is its events, each time from a part just switched on; of one named wide or tall, which
+   leads to a screen, the picture: all digits, dark phase, drawn as often as there are passes, after the record is run
+   once. Both sides' results are compared before anything is timed, and no pass can be left out: the sides are compiled
+   apart from this file. */
 #include "model.h"
-#include "timed.h"
+#include "proved.h"
 
 #include <stdio.h>
 #include <stdlib.h>
@@ -27,38 +27,42 @@ struct work {
 static uint8_t rom[ROM_BYTES];
 static uint8_t dots[MOST_DOTS];
 
-typedef uint32_t side(const struct work *work);
-
 static void stop(const char *name, const char *what)
 {
     fprintf(stderr, "%s: %s\n", name, what);
     exit(1);
 }
 
-/* One pass of each side */
+/* The sides: one or more passes, and the last one's answer */
 
-static uint32_t proved_events(const struct work *work)
-{
-    return timed_events(work->record, work->length);
-}
+typedef uint32_t side(const struct work *work, uint32_t passes);
 
-static uint32_t c_events(const struct work *work)
+static uint32_t proved_side(const struct work *work, uint32_t passes)
 {
-    return run_model(work->record + HEAD, work->length - HEAD);
-}
-
-static uint32_t proved_picture(const struct work *work)
-{
-    return timed_picture(work->record, work->length, work->digits, rom, sizeof rom, true, dots, sizeof dots);
-}
-
-static uint32_t c_picture(const struct work *work)
-{
-    struct part part;
-    state_model(work->record + HEAD, work->length - HEAD, &part);
     if (work->digits)
-        picture_model(&part, work->digits, rom, true, dots);
-    return 0;
+        return benchmark_picture(work->record, work->length, work->digits, rom, sizeof rom, true, passes - 1, dots,
+                                 sizeof dots);
+    uint32_t sum = 0;
+    for (uint32_t at = 0; at < passes; at++)
+        sum = benchmark_events(work->record, work->length);
+    return sum;
+}
+
+static uint32_t c_side(const struct work *work, uint32_t passes)
+{
+    const uint8_t *events = work->record + HEAD;
+    size_t bytes = work->length - HEAD;
+    if (work->digits) {
+        struct part part;
+        state_model(events, bytes, &part);
+        for (uint32_t at = 0; at < passes; at++)
+            picture_model(&part, work->digits, rom, true, dots);
+        return DONE;
+    }
+    uint32_t sum = 0;
+    for (uint32_t at = 0; at < passes; at++)
+        sum = run_model(events, bytes);
+    return sum;
 }
 
 /* Reading */
@@ -86,118 +90,79 @@ static void fill_rom(void)
 
 /* Both sides give the same */
 
-static void same_events(const struct work *work)
-{
-    if (proved_events(work) != c_events(work))
-        stop(work->name, "the two sides answer differently");
-}
-
-static void same_picture(const struct work *work)
+static void same(const struct work *work)
 {
     uint8_t proved[MOST_DOTS];
     memset(dots, 0xA5, sizeof dots);
-    if (proved_picture(work) != 0)
-        stop(work->name, "the picture is refused");
+    uint32_t answer = proved_side(work, 2);
     memcpy(proved, dots, sizeof dots);
     memset(dots, 0xA5, sizeof dots);
-    c_picture(work);
+    if (c_side(work, 2) != answer)
+        stop(work->name, "the two sides answer differently");
     if (memcmp(proved, dots, sizeof dots) != 0)
         stop(work->name, "the two sides show different dots");
 }
 
 /* Time */
 
+/* Of the processor for this process, so that the time that others get does not count. */
 static double nanoseconds(void)
 {
     struct timespec now;
-    clock_gettime(CLOCK_MONOTONIC, &now);
+    clock_gettime(CLOCK_PROCESS_CPUTIME_ID, &now);
     return now.tv_sec * 1e9 + now.tv_nsec;
 }
 
-static double one_round(side *pass, const struct work *work, long passes)
+static double time_of(side *side, const struct work *work, uint32_t passes)
 {
     double start = nanoseconds();
-    for (long at = 0; at < passes; at++)
-        pass(work);
-    return (nanoseconds() - start) / passes;
+    side(work, passes);
+    return nanoseconds() - start;
 }
 
 /* As many passes as take some 10 milliseconds. */
-static long enough(side *pass, const struct work *work)
+static uint32_t enough(side *side, const struct work *work)
 {
-    long passes = 1;
-    while (one_round(pass, work, passes) * passes < 1e7)
+    uint32_t passes = 1;
+    while (time_of(side, work, passes) < 1e7)
         passes *= 2;
     return passes;
 }
 
-struct times {
-    double proved, c;
-};
+static double less(double one, double other)
+{
+    return one < other ? one : other;
+}
 
 /* The least of many rounds, the sides taking turns. */
-static struct times least(side *proved, side *c, const struct work *work)
+static void time_both(const struct work *work)
 {
-    struct times least = { 1e300, 1e300 };
-    long passes = enough(c, work);
+    uint32_t passes = enough(c_side, work);
+    double proved = 1e300, c = 1e300;
     for (int round = 0; round < ROUNDS; round++) {
-        double now = one_round(proved, work, passes);
-        if (now < least.proved)
-            least.proved = now;
-        now = one_round(c, work, passes);
-        if (now < least.c)
-            least.c = now;
+        proved = less(proved, time_of(proved_side, work, passes));
+        c = less(c, time_of(c_side, work, passes));
     }
-    return least;
-}
-
-static void time_events(const struct work *work)
-{
-    same_events(work);
-    size_t count = (work->length - HEAD) / EVENT;
-    struct times all = least(proved_events, c_events, work);
-    printf("%-15s %4zu events  proved %7.2f ns  C %7.2f ns an event    rate %.2f of C's\n", work->name, count,
-           all.proved / count, all.c / count, all.c / all.proved);
-}
-
-static void time_picture(const struct work *work)
-{
-    same_picture(work);
-    struct work before = *work;
-    before.digits = 0;
-    struct times with = least(proved_picture, c_picture, work), without = least(proved_picture, c_picture, &before);
-    double proved = with.proved - without.proved, c = with.c - without.c;
-    printf("%-15s %4s digits  proved %7.0f ns  C %7.0f ns a picture  rate %.2f of C's\n", work->name,
-           work->digits == 40 ? "2x40" : "80", proved, c, c / proved);
-}
-
-static void pass_alone(const char *which, const struct work *work, long passes)
-{
-    bool proved = strcmp(which, "proved") == 0;
-    side *pass = work->digits ? (proved ? proved_picture : c_picture) : (proved ? proved_events : c_events);
-    for (long at = 0; at < passes; at++)
-        pass(work);
+    double count = (double)passes * (work->digits ? 1 : (work->length - HEAD) / EVENT);
+    printf("%8.2f %8.2f %6.2f\n", proved / count, c / count, c / proved);
 }
 
 int main(int count, char **arguments)
 {
     static struct work work;
     fill_rom();
-    if (count > 2 && strcmp(arguments[1], "time") == 0) {
-        for (int at = 2; at < count; at++) {
-            read_work(arguments[at], &work);
-            if (work.digits)
-                time_picture(&work);
-            else
-                time_events(&work);
-        }
+    if (count == 3 && strcmp(arguments[1], "time") == 0) {
+        read_work(arguments[2], &work);
+        same(&work);
+        time_both(&work);
         return 0;
     }
     if (count == 5 && strcmp(arguments[1], "pass") == 0) {
         read_work(arguments[3], &work);
-        pass_alone(arguments[2], &work, strtol(arguments[4], NULL, 10));
+        side *side = strcmp(arguments[2], "proved") == 0 ? proved_side : c_side;
+        side(&work, (uint32_t)strtoul(arguments[4], NULL, 10));
         return 0;
     }
-    fprintf(stderr, "usage: compare time RECORD... | compare pass proved|c RECORD PASSES\n");
+    fprintf(stderr, "usage: compare time RECORD | compare pass proved|c RECORD PASSES\n");
     return 1;
 }

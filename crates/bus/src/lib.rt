@@ -2,17 +2,11 @@
 ghost use mathlib.Core.Path.{_≡_};
 ghost use Rattle.bus.specs.Transfer.{told, transferOf, waitOf};
 
-mod data;
-pub mod event;
-mod halves;
-pub mod kind;
-mod memory;
-mod step;
 pub mod turn;
 
 use controller::Controller;
 use controller::answer::Answer;
-use kind::Kind;
+use event::Kind;
 
 // What a transfer or a wait comes to.
 pub struct Outcome {
@@ -32,9 +26,9 @@ pub fn transfer(controller: Controller, kind: Kind, value: u8) -> Outcome
     }
     let mut display = controller.display;
     let mut character = controller.character;
-    let turned = turn::transferred(&mut display, &mut character, registers, kind, value);
-    let after = turned.registers;
-    let answer = turned.answer;
+    let effect = turn::transferred(&mut display, &mut character, registers, kind, value);
+    let after = effect.registers;
+    let answer = effect.answer;
     Outcome {
         controller: Controller {
             display,

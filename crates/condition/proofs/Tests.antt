@@ -1,6 +1,6 @@
 -- Tests as facts, and one computed test for every number below a bound.
 use Prim.Native.Nat.{ℕ, zero, suc, _<_}
-use mathlib.Core.Path.{_≡_, refl, subst, sym}
+use mathlib.Core.Path.{_≡_, _∙_, ap, refl, subst, sym}
 use mathlib.Core.Logic.{_⊎_, _≢_, inl, inr, ⊎-elim}
 use mathlib.Core.Bool.{Bool, true, false, cond, _&&_, _||_, not}
 use native.Mathlib.Nat.{not-suc-le-zero, eq-or-lt-of-le, le-of-suc-le-suc}
@@ -63,3 +63,7 @@ each f (suc n) t k h =
 
 pub neqb→ne : (a b : ℕ) → T (not (eqb a b)) → a ≢ b
 neqb→ne a b t e = T-not (eqb a b) t (subst (λ (n : ℕ). T (eqb a n)) e (eqb-refl a))
+
+-- what is known of the case that was met
+pub met : {A B : Type 0} (f : A → B) {k j : A} {x : B} → k ≡ j → x ≡ f j → x ≡ f k
+met f e p = p ∙ ap f (sym e)

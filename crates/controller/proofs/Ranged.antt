@@ -1,5 +1,5 @@
 -- The test `inRange`, taken apart and put together.
-use Prim.Native.Nat.{_≤_}
+use Prim.Native.Nat.{ℕ, _≤_}
 use mathlib.Core.Path.{_≡_}
 use mathlib.Core.Bool.{Bool, true, _&&_}
 use lib.Dec.{T, leb, leb→le, le→leb}
@@ -7,13 +7,16 @@ use Rattle.counters.specs.Counter.{hasCounter}
 use Rattle.counters.specs.Shift.{hasShift}
 use Rattle.condition.proofs.Tests.{holds, is-true, and-left, and-right, and-both}
 use Rattle.controller.specs.declared.registers.Registers.{Registers}
-use Rattle.controller.specs.Part.{inRange, halfFits}
+use Rattle.halves.specs.declared.Half.{Half}
+use Rattle.halves.specs.Halves.{halfFits, upperOf}
+use Rattle.halves.proofs.Waiting.{upper-fits}
+use Rattle.controller.specs.Part.{awaiting, longest, inRange}
 
 pub record InRange (r : Registers) : Type 0 where
   pub counter : T (hasCounter (r .mode .lines) (r .counter))
   pub shift : T (hasShift (r .mode .lines) (r .shift))
   pub half : T (halfFits (r .bus) (r .half))
-  pub busy : r .busy ≤ 3750
+  pub busy : r .busy ≤ longest
 
 module _ (r : Registers) where
   abbrev counter-test : Bool
@@ -26,7 +29,7 @@ module _ (r : Registers) where
   half-test = halfFits (r .bus) (r .half)
 
   abbrev busy-test : Bool
-  busy-test = leb (r .busy) 3750
+  busy-test = leb (r .busy) longest
 
   pub facts : T (inRange r) → InRange r
   unfolding inRange
@@ -37,7 +40,7 @@ module _ (r : Registers) where
         counter = and-left counter-test (shift-test && (half-test && busy-test)) t;
         shift = and-left shift-test (half-test && busy-test) s;
         half = and-left half-test busy-test h;
-        busy = leb→le (r .busy) 3750 (and-right half-test busy-test h);
+        busy = leb→le (r .busy) longest (and-right half-test busy-test h);
       }
 
   pub test : InRange r → T (inRange r)
@@ -45,7 +48,21 @@ module _ (r : Registers) where
   test f =
       and-both counter-test (shift-test && (half-test && busy-test)) (f .counter)
       (and-both shift-test (half-test && busy-test) (f .shift)
-      (and-both half-test busy-test (f .half) (le→leb (r .busy) 3750 (f .busy))))
+      (and-both half-test busy-test (f .half) (le→leb (r .busy) longest (f .busy))))
 
 pub counter-exists : (r : Registers) → inRange r ≡ true → hasCounter (r .mode .lines) (r .counter) ≡ true
 counter-exists r t = is-true _ (facts r (holds (inRange r) t) .counter)
+
+-- the half that waits is below 16
+pub upper-small : (r : Registers) → inRange r ≡ true → upperOf (r .half) ≤ 15
+upper-small r t = upper-fits (r .bus) (r .half) (facts r (holds (inRange r) t) .half)
+
+-- with no half waiting, and a busy time of the table
+pub unhalved : (r : Registers) (t : ℕ) → InRange r → t ≤ longest → InRange (awaiting r Half.Nothing t)
+unfolding halfFits
+unhalved r t f h = record { counter = f .counter; shift = f .shift; half = tt; busy = h }
+
+pub unhalved-in-range : (r : Registers) → inRange r ≡ true → inRange (awaiting r Half.Nothing (r .busy)) ≡ true
+unhalved-in-range r t =
+    let f : InRange r = facts r (holds (inRange r) t) in
+    is-true _ (test (awaiting r Half.Nothing (r .busy)) (unhalved r (r .busy) f (f .busy)))

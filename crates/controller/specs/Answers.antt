@@ -3,19 +3,22 @@ use Prim.Native.Nat.{ℕ}
 use Rattle.controller.specs.declared.answer.Answer.{Answer}
 use Rattle.controller.specs.declared.answer.Answer.the-variants.{Done, FirstHalf, Busy, HalvesDisagree, NoSuchAddress, NotInRange}
 
-abbrev pub numberOf : Answer → ℕ
-numberOf (Done v) = 0
-numberOf (FirstHalf v) = 20
-numberOf Busy = 1
-numberOf HalvesDisagree = 2
-numberOf NoSuchAddress = 3
-numberOf NotInRange = 16
+-- what a caller is told: a number, and the value read
+pub record Said : Type 0 where
+  pub number : ℕ
+  pub value : ℕ
 
--- a refused call returns 0 for any value
-abbrev pub valueOf : Answer → ℕ
-valueOf (Done v) = v
-valueOf (FirstHalf v) = v
-valueOf Busy = 0
-valueOf HalvesDisagree = 0
-valueOf NoSuchAddress = 0
-valueOf NotInRange = 0
+abbrev pub saying : (number value : ℕ) → Said
+saying n v = record { number = n; value = v }
+
+-- a refused call returns its number and 0 for any value
+abbrev pub refused : ℕ → Said
+refused n = saying n 0
+
+abbrev pub saidOf : Answer → Said
+saidOf (Done v) = saying 0 v
+saidOf (FirstHalf v) = saying 20 v
+saidOf Busy = refused 1
+saidOf HalvesDisagree = refused 2
+saidOf NoSuchAddress = refused 3
+saidOf NotInRange = refused 16

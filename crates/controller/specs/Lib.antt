@@ -1,3 +1,5 @@
-pub mod Answers
 pub mod Part
-pub mod Instructions
+pub mod Memory
+pub mod Answers
+pub mod Result
+pub mod Told

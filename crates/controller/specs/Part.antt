@@ -2,20 +2,21 @@
 use Prim.Native.Nat.{ℕ, _-_}
 use mathlib.Core.Bool.{Bool, true, false, _&&_}
 use mathlib.Core.List.{List}
-use lib.ListN.{replicate}
 use lib.Dec.{leb}
+use lib.ListN.{replicate}
 use Rattle.counters.specs.declared.LineMode.the-variants.{One}
 use Rattle.counters.specs.declared.counter.Counter.{Counter}
 use Rattle.counters.specs.declared.counter.Counter.the-variants.{Display}
 use Rattle.counters.specs.declared.shift.Shift.{Shift}
 use Rattle.counters.specs.Address.{display}
-use Rattle.counters.specs.Counter.{hasCounter}
-use Rattle.counters.specs.Shift.{shift, hasShift}
+use Rattle.counters.specs.Counter.{hasCounter, stepOf}
+use Rattle.counters.specs.Shift.{shift, hasShift, moveOf}
+use Rattle.halves.specs.declared.Half.{Half}
+use Rattle.halves.specs.declared.Half.the-variants.{Nothing}
+use Rattle.halves.specs.declared.LineCount.{LineCount}
+use Rattle.halves.specs.declared.LineCount.the-variants.{Eight}
+use Rattle.halves.specs.Halves.{halfFits}
 use Rattle.controller.specs.declared.Controller.{Controller}
-use Rattle.controller.specs.declared.half.LineCount.{LineCount}
-use Rattle.controller.specs.declared.half.LineCount.the-variants.{Eight, Four}
-use Rattle.controller.specs.declared.half.Half.{Half}
-use Rattle.controller.specs.declared.half.Half.the-variants.{Nothing, InstructionWrite, DataWrite, StatusRead, DataRead}
 use Rattle.controller.specs.declared.registers.Mode.{Mode}
 use Rattle.controller.specs.declared.registers.Entry.{Entry}
 use Rattle.controller.specs.declared.registers.Lights.{Lights}
@@ -23,44 +24,44 @@ use Rattle.controller.specs.declared.registers.Registers.{Registers}
 
 -- ---- the registers with some of them set anew
 abbrev pub placed : Registers → Counter → Shift → Registers
-placed r k s = record { counter = k; shift = s; bus = r .bus; mode = r .mode; entry = r .entry; lights = r .lights; half = r .half; busy = r .busy }
+placed r k s = record { counter = k; shift = s; mode = r .mode; entry = r .entry; lights = r .lights; bus = r .bus; half = r .half; busy = r .busy }
 
 abbrev pub arranged : Registers → LineCount → Mode → Registers
-arranged r b m = record { counter = r .counter; shift = r .shift; bus = b; mode = m; entry = r .entry; lights = r .lights; half = r .half; busy = r .busy }
+arranged r b m = record { counter = r .counter; shift = r .shift; mode = m; entry = r .entry; lights = r .lights; bus = b; half = r .half; busy = r .busy }
 
 abbrev pub entered : Registers → Entry → Registers
-entered r e = record { counter = r .counter; shift = r .shift; bus = r .bus; mode = r .mode; entry = e; lights = r .lights; half = r .half; busy = r .busy }
+entered r e = record { counter = r .counter; shift = r .shift; mode = r .mode; entry = e; lights = r .lights; bus = r .bus; half = r .half; busy = r .busy }
 
 abbrev pub lit : Registers → Lights → Registers
-lit r l = record { counter = r .counter; shift = r .shift; bus = r .bus; mode = r .mode; entry = r .entry; lights = l; half = r .half; busy = r .busy }
+lit r l = record { counter = r .counter; shift = r .shift; mode = r .mode; entry = r .entry; lights = l; bus = r .bus; half = r .half; busy = r .busy }
 
 abbrev pub awaiting : Registers → Half → ℕ → Registers
-awaiting r h t = record { counter = r .counter; shift = r .shift; bus = r .bus; mode = r .mode; entry = r .entry; lights = r .lights; half = h; busy = t }
+awaiting r h t = record { counter = r .counter; shift = r .shift; mode = r .mode; entry = r .entry; lights = r .lights; bus = r .bus; half = h; busy = t }
+
+-- ---- the counter one step on, in whichever memory it belongs to
+abbrev pub counterStepped : (up : Bool) → Registers → Counter
+counterStepped up r = stepOf (r .mode .lines) up (r .counter)
+
+-- ---- the shift once the display has moved
+abbrev pub shiftMoved : (right : Bool) → Registers → Shift
+shiftMoved right r = moveOf (r .mode .lines) right (r .shift)
 
 -- ---- a wait of n ticks lowers the busy time by n, not below 0
 unfoldable pub waited : Registers → ℕ → Registers
 waited r n = awaiting r (r .half) (r .busy - n)
 
 -- ---- in range
-unfoldable pub isFour : LineCount → Bool
-isFour Eight = false
-isFour Four = true
+-- busy time never exceeds 3,750
+abbrev pub longest : ℕ
+longest = 3750
 
--- a half waits only on four lines and is 0 to 15, for a read always 0: a read's half holds no number
-unfoldable pub halfFits : LineCount → Half → Bool
-halfFits b Nothing = true
-halfFits b (InstructionWrite u) = isFour b && leb u 15
-halfFits b (DataWrite u) = isFour b && leb u 15
-halfFits b StatusRead = isFour b
-halfFits b DataRead = isFour b
-
--- the address is one its memory and line mode have, the shift is one the line mode has, the half is as above, and busy time never exceeds 3,750
+-- the address is one its memory and line mode have, the shift is one the line mode has, a half waits only as "Halves" says, and the busy time is as above
 unfoldable pub inRange : Registers → Bool
 inRange r =
     hasCounter (r .mode .lines) (r .counter)
     && (hasShift (r .mode .lines) (r .shift)
     && (halfFits (r .bus) (r .half)
-    && leb (r .busy) 3750))
+    && leb (r .busy) longest))
 
 -- ---- switched on
 -- address 00 of display memory, shift 0, eight lines, N = 0, F = 0, direction up, no shift on write,
@@ -69,18 +70,22 @@ unfoldable pub freshRegisters : Registers
 freshRegisters = record {
   counter = Display (display 0x00);
   shift = shift 0;
-  bus = Eight;
   mode = record { lines = One; tall = false };
   entry = record { up = true; shifts = false };
   lights = record { display = false; cursor = false; blink = false };
+  bus = Eight;
   half = Nothing;
-  busy = 3750;
+  busy = longest;
 }
 
--- a part just switched on that was given these two memories
-unfoldable pub freshWith : List ℕ → List ℕ → Controller
-freshWith d k = record { display = d; character = k; registers = freshRegisters }
+-- a controller of these two memories and registers
+abbrev pub with : (display character : List ℕ) → Registers → Controller
+with d m r = record { display = d; character = m; registers = r }
 
--- all display cells 20 hex, character memory 0
+-- a part just switched on that was given these two memories
+unfoldable pub freshWith : (display character : List ℕ) → Controller
+freshWith d m = with d m freshRegisters
+
+-- all display cells 20 hex, character memory 0 (ours)
 unfoldable pub switchedOn : Controller
 switchedOn = freshWith (replicate 80 0x20) (replicate 64 0)

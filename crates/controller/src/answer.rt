@@ -1,6 +1,6 @@
 // The answers to a transfer or a wait. A refusal carries no value.
 ghost use mathlib.Core.Path.{_≡_};
-ghost use Rattle.controller.specs.Answers.{numberOf, valueOf};
+ghost use Rattle.controller.specs.Answers.{saidOf};
 
 pub enum Answer {
     Done(u8),
@@ -14,7 +14,7 @@ pub enum Answer {
 impl Answer {
     // This paper's number.
     pub fn number(self) -> u8
-        ensures { λ r. ⌜ r ≡ numberOf self ⌝ }
+        ensures { λ r. ⌜ r ≡ saidOf self .number ⌝ }
     {
         match self {
             Answer::Done(_) => 0,
@@ -28,7 +28,7 @@ impl Answer {
 
     // The value read; 0 beside a refusal.
     pub fn value(self) -> u8
-        ensures { λ r. ⌜ r ≡ valueOf self ⌝ }
+        ensures { λ r. ⌜ r ≡ saidOf self .value ⌝ }
     {
         match self {
             Answer::Done(read) => read,

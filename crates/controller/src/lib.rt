@@ -1,21 +1,17 @@
-// The character controller: two memories and a handful of registers, and what each instruction does to them.
+// The character controller: two memories and a handful of registers.
 ghost use mathlib.Core.Path.{_≡_};
 ghost use Rattle.controller.specs.Part.{switchedOn};
 
 pub mod answer;
-pub mod change;
 pub mod effect;
-pub mod half;
-pub mod instruction;
-pub mod obey;
 pub mod registers;
 
 use counters::LineMode;
 use counters::address::DisplayAddress;
 use counters::counter::Counter;
 use counters::shift::Shift;
-use half::Half;
-use half::LineCount;
+use halves::Half;
+use halves::LineCount;
 use registers::Entry;
 use registers::Lights;
 use registers::Mode;
@@ -46,7 +42,6 @@ impl Controller {
             registers: Registers {
                 counter: Counter::Display(DisplayAddress(0x00)),
                 shift: Shift(0),
-                bus: LineCount::Eight,
                 mode: Mode {
                     lines: LineMode::One,
                     tall: false,
@@ -60,6 +55,7 @@ impl Controller {
                     cursor: false,
                     blink: false,
                 },
+                bus: LineCount::Eight,
                 half: Half::Nothing,
                 busy: Controller::LONGEST,
             },

@@ -1,9 +1,9 @@
 // The registers: all of the part but its two memories.
 ghost use mathlib.Core.Path.{_≡_};
-ghost use Rattle.controller.specs.Part.{inRange, waited as waitedOf};
+ghost use Rattle.controller.specs.Part.{inRange, waited as waitedOf, counterStepped, shiftMoved};
 use super::Controller;
-use super::half::Half;
-use super::half::LineCount;
+use halves::Half;
+use halves::LineCount;
 use counters::LineMode;
 use counters::counter::Counter;
 use counters::shift::Shift;
@@ -29,10 +29,10 @@ pub struct Lights {
 pub struct Registers {
     pub counter: Counter,
     pub shift: Shift,
-    pub bus: LineCount,
     pub mode: Mode,
     pub entry: Entry,
     pub lights: Lights,
+    pub bus: LineCount,
     pub half: Half,
     pub busy: u16,
 }
@@ -54,14 +54,30 @@ impl Registers {
     pub fn waited(self, ticks: u16) -> Registers
         ensures { λ r. ⌜ r ≡ waitedOf self ticks ⌝ }
     {
-        let busy = self.busy;
-        if busy < ticks {
-            Registers { busy: 0, ..self }
-        } else {
-            Registers {
-                busy: busy - ticks,
-                ..self
-            }
+        let mut busy: u16 = 0;
+        if ticks < self.busy {
+            busy = self.busy - ticks;
         }
+        Registers { busy, ..self }
+    }
+
+    // The counter one step on.
+    pub fn counter_stepped(self, up: bool) -> Counter
+        ensures { λ r. ⌜ r ≡ counterStepped up self ⌝ }
+    {
+        let mode = self.mode;
+        let lines = mode.lines;
+        let counter = self.counter;
+        counter.step(lines, up)
+    }
+
+    // The shift once the display has moved.
+    pub fn shift_moved(self, right: bool) -> Shift
+        ensures { λ r. ⌜ r ≡ shiftMoved right self ⌝ }
+    {
+        let mode = self.mode;
+        let lines = mode.lines;
+        let shift = self.shift;
+        shift.moved(lines, right)
     }
 }

@@ -1,4 +1,4 @@
--- Laws of places: address and cell, steps of the counter, moves of the display.
+-- Address and cell, steps of the counter, moves of the display: each law one computed test of all numbers.
 use Prim.Native.Nat.{ℕ, _<_}
 use mathlib.Core.Path.{_≡_, ap}
 use mathlib.Core.Logic.{⊎-elim}
@@ -13,9 +13,11 @@ use Rattle.counters.specs.declared.address.Cell.{Cell}
 use Rattle.counters.specs.declared.counter.Counter.{Counter}
 use Rattle.counters.specs.declared.counter.Counter.the-variants.{Display, Character}
 use Rattle.counters.specs.declared.shift.Shift.{Shift}
-use Rattle.counters.specs.Address.{display, character, cell, hasDisplay, hasCharacter, cellOf, addressOf, upDisplay, downDisplay, upCharacter, downCharacter}
+use Rattle.counters.specs.Address.{display, character, cell, hasDisplay, hasCharacter, cellOf, addressOf, stepDisplay, stepCharacter}
 use Rattle.counters.specs.Counter.{hasCounter, stepOf, numberOn}
-use Rattle.counters.specs.Shift.{shift, lastShift, hasShift, leftOf, rightOf, moveOf}
+use Rattle.counters.specs.Wrap.{next, previous}
+use Rattle.counters.specs.Theorems.{CellExists, AddressComesBack, AddressExists, CellComesBack, StepExists, StepBack, NumberBelow, MoveExists, MoveBack}
+use Rattle.counters.specs.Shift.{shift, lastShift, hasShift, moveOf}
 use Rattle.condition.proofs.Tests.{each, every, _⇒_, implies, and-right, or-cases}
 
 -- a law of addresses is a test of 128 numbers
@@ -48,28 +50,28 @@ on-cell law all Two c h = each (law Two) 80 (all .1) (c .0) h
 to-cell-and-back : LineMode → ℕ → Bool
 to-cell-and-back mode n = eqb (addressOf mode (cellOf mode (display n)) .0) n
 
-pub address-of-cell-of : (mode : LineMode) (a : DisplayAddress) → T (hasDisplay mode a) → addressOf mode (cellOf mode a) ≡ a
+pub address-comes-back : AddressComesBack
 unfolding to-cell-and-back OnDisplay hasDisplay cellOf addressOf
-address-of-cell-of mode a t = ap display (eqb→eq _ _ (on-display to-cell-and-back (tt, tt) mode a t))
+address-comes-back mode a t = ap display (eqb→eq _ _ (on-display to-cell-and-back (tt, tt) mode a t))
 
 to-address-and-back : LineMode → ℕ → Bool
 to-address-and-back mode n = eqb (cellOf mode (addressOf mode (cell n)) .0) n
 
-pub cell-of-address-of : (mode : LineMode) (c : Cell) → c .0 < 80 → cellOf mode (addressOf mode c) ≡ c
+pub cell-comes-back : CellComesBack
 unfolding to-address-and-back cellOf addressOf
-cell-of-address-of mode c h = ap cell (eqb→eq _ _ (on-cell to-address-and-back (tt, tt) mode c h))
+cell-comes-back mode c h = ap cell (eqb→eq _ _ (on-cell to-address-and-back (tt, tt) mode c h))
 
 cell-small : LineMode → ℕ → Bool
 cell-small mode n = ltb (cellOf mode (display n) .0) 80
 
-pub cell-exists : (mode : LineMode) (a : DisplayAddress) → T (hasDisplay mode a) → cellOf mode a .0 < 80
+pub cell-exists : CellExists
 unfolding cell-small OnDisplay hasDisplay cellOf
 cell-exists mode a t = ltb→lt _ _ (on-display cell-small (tt, tt) mode a t)
 
 address-there : LineMode → ℕ → Bool
 address-there mode n = hasDisplay mode (addressOf mode (cell n))
 
-pub address-exists : (mode : LineMode) (c : Cell) → c .0 < 80 → T (hasDisplay mode (addressOf mode c))
+pub address-exists : AddressExists
 unfolding address-there hasDisplay addressOf
 address-exists mode c h = on-cell address-there (tt, tt) mode c h
 
@@ -79,8 +81,7 @@ unfolding hasCounter hasDisplay
 home-exists One = tt
 home-exists Two = tt
 
--- the number of every counter that exists leaves the highest bit free for the busy flag
-pub number-below : (mode : LineMode) (k : Counter) → T (hasCounter mode k) → numberOn k < 0x80
+pub number-below : NumberBelow
 unfolding hasCounter hasCharacter numberOn
 number-below mode (Display a) t = display-below mode (a .0) t
 number-below mode (Character a) t = omega (arith, leb→le (a .0) 0x3F t)
@@ -95,8 +96,8 @@ on-character : (law : ℕ → Bool) → T (every law 0x40) → (a : CharacterAdd
 unfolding hasCharacter
 on-character law all a t = each law 0x40 all (a .0) (omega (arith, leb→le (a .0) 0x3F t))
 
-pub step-exists : (up : Bool) (mode : LineMode) (k : Counter) → T (hasCounter mode k) → T (hasCounter mode (stepOf mode up k))
-unfolding display-steps character-steps OnDisplay hasCounter hasDisplay hasCharacter stepOf upDisplay downDisplay upCharacter downCharacter
+pub step-exists : StepExists
+unfolding display-steps character-steps OnDisplay hasCounter hasDisplay hasCharacter stepOf stepDisplay stepCharacter next previous
 step-exists true mode (Display a) t = on-display (display-steps true) (tt, tt) mode a t
 step-exists false mode (Display a) t = on-display (display-steps false) (tt, tt) mode a t
 step-exists true mode (Character a) t = on-character (character-steps true) tt a t
@@ -108,9 +109,8 @@ display-returns up mode n = eqb (numberOn (stepOf mode (not up) (stepOf mode up 
 character-returns : Bool → ℕ → Bool
 character-returns up n = eqb (numberOn (stepOf One (not up) (stepOf One up (Character (character n))))) n
 
--- up and down are inverse
-pub step-back : (up : Bool) (mode : LineMode) (k : Counter) → T (hasCounter mode k) → stepOf mode (not up) (stepOf mode up k) ≡ k
-unfolding display-returns character-returns OnDisplay hasCounter hasDisplay hasCharacter numberOn stepOf upDisplay downDisplay upCharacter downCharacter
+pub step-back : StepBack
+unfolding display-returns character-returns OnDisplay hasCounter hasDisplay hasCharacter numberOn stepOf stepDisplay stepCharacter next previous
 step-back true mode (Display a) t = ap (λ n. Display (display n)) (eqb→eq _ _ (on-display (display-returns true) (tt, tt) mode a t))
 step-back false mode (Display a) t = ap (λ n. Display (display n)) (eqb→eq _ _ (on-display (display-returns false) (tt, tt) mode a t))
 step-back true mode (Character a) t = ap (λ n. Character (character n)) (eqb→eq _ _ (on-character (character-returns true) tt a t))
@@ -132,16 +132,15 @@ on-shift law all Two s t = each (law Two) 40 (all .1) (s .0) (omega (arith, leb�
 shift-moves : Bool → LineMode → ℕ → Bool
 shift-moves right mode n = hasShift mode (moveOf mode right (shift n))
 
-pub move-exists : (right : Bool) (mode : LineMode) (s : Shift) → T (hasShift mode s) → T (hasShift mode (moveOf mode right s))
-unfolding shift-moves hasShift lastShift moveOf leftOf rightOf
+pub move-exists : MoveExists
+unfolding shift-moves hasShift lastShift moveOf next previous
 move-exists true mode s t = on-shift (shift-moves true) (tt, tt) mode s t
 move-exists false mode s t = on-shift (shift-moves false) (tt, tt) mode s t
 
 shift-returns : Bool → LineMode → ℕ → Bool
 shift-returns right mode n = eqb (moveOf mode (not right) (moveOf mode right (shift n)) .0) n
 
--- left and right are inverse
-pub move-back : (right : Bool) (mode : LineMode) (s : Shift) → T (hasShift mode s) → moveOf mode (not right) (moveOf mode right s) ≡ s
-unfolding shift-returns moveOf leftOf rightOf lastShift
+pub move-back : MoveBack
+unfolding shift-returns moveOf lastShift next previous
 move-back true mode s t = ap shift (eqb→eq _ _ (on-shift (shift-returns true) (tt, tt) mode s t))
 move-back false mode s t = ap shift (eqb→eq _ _ (on-shift (shift-returns false) (tt, tt) mode s t))

@@ -1,12 +1,13 @@
 -- "Memories and counters": the addresses of both memories, the cells of display memory, and one step.
 use Prim.Native.Nat.{ℕ, _+_, _-_}
-use mathlib.Core.Bool.{Bool, cond, _&&_, _||_}
+use mathlib.Core.Bool.{Bool, true, false, cond, _&&_, _||_}
 use lib.Dec.{ltb, leb, eqb}
 use Rattle.counters.specs.declared.LineMode.{LineMode}
 use Rattle.counters.specs.declared.LineMode.the-variants.{One, Two}
 use Rattle.counters.specs.declared.address.DisplayAddress.{DisplayAddress}
 use Rattle.counters.specs.declared.address.CharacterAddress.{CharacterAddress}
 use Rattle.counters.specs.declared.address.Cell.{Cell}
+use Rattle.counters.specs.Wrap.{next, previous, wrapped}
 
 abbrev pub display : ℕ → DisplayAddress
 display n = record { 0 = n }
@@ -36,19 +37,13 @@ addressOf Two c = display (cond (ltb (c .0) 40) (c .0) (c .0 - 40 + 0x40))
 unfoldable pub hasCharacter : CharacterAddress → Bool
 hasCharacter a = leb (a .0) 0x3F
 
--- one step up goes 4F to 00 with one line; 27 to 40 and 67 to 00 with two
-unfoldable pub upDisplay : LineMode → DisplayAddress → DisplayAddress
-upDisplay One a = display (cond (leb 0x4F (a .0)) 0x00 (a .0 + 1))
-upDisplay Two a = display (cond (eqb (a .0) 0x27) 0x40 (cond (leb 0x67 (a .0)) 0x00 (a .0 + 1)))
+-- ---- one step, up where the argument says so
+-- with one line 4F to 00; with two 27 to 40, and 67 to 00 (ours); a step down is the reverse (ours)
+unfoldable pub stepDisplay : LineMode → (up : Bool) → DisplayAddress → DisplayAddress
+stepDisplay One up a = display (wrapped up 0x4F (a .0))
+stepDisplay Two true a = display (cond (eqb (a .0) 0x27) 0x40 (next 0x67 (a .0)))
+stepDisplay Two false a = display (cond (eqb (a .0) 0x40) 0x27 (previous 0x67 (a .0)))
 
--- 3F to 00 in character memory
-unfoldable pub upCharacter : CharacterAddress → CharacterAddress
-upCharacter a = character (cond (leb 0x3F (a .0)) 0x00 (a .0 + 1))
-
--- a step down is the reverse
-unfoldable pub downDisplay : LineMode → DisplayAddress → DisplayAddress
-downDisplay One a = display (cond (eqb (a .0) 0x00) 0x4F (a .0 - 1))
-downDisplay Two a = display (cond (eqb (a .0) 0x40) 0x27 (cond (eqb (a .0) 0x00) 0x67 (a .0 - 1)))
-
-unfoldable pub downCharacter : CharacterAddress → CharacterAddress
-downCharacter a = character (cond (eqb (a .0) 0x00) 0x3F (a .0 - 1))
+-- 3F to 00 in character memory; a step down is the reverse (ours)
+unfoldable pub stepCharacter : (up : Bool) → CharacterAddress → CharacterAddress
+stepCharacter up a = character (wrapped up 0x3F (a .0))

@@ -1,3 +1,5 @@
+pub mod Wrap
 pub mod Address
 pub mod Counter
 pub mod Shift
+pub mod Theorems

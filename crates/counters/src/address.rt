@@ -1,7 +1,11 @@
 // Addresses on the bus and cells of storage, kept apart: only the line mode turns one into the other.
+ghost use mathlib.Core.Bool.{true, false};
 ghost use mathlib.Core.Path.{_≡_};
-ghost use Rattle.counters.specs.Address.{hasDisplay, hasCharacter, cellOf, upDisplay, downDisplay, upCharacter, downCharacter};
+ghost use Rattle.counters.specs.Address.{display, hasDisplay, hasCharacter, cellOf, stepDisplay, stepCharacter};
 use super::LineMode;
+use super::wrap::next;
+use super::wrap::previous;
+use super::wrap::wrapped;
 
 // An address of display memory, as the bus names it.
 pub struct DisplayAddress(pub u8);
@@ -33,53 +37,34 @@ impl DisplayAddress {
         }
     }
 
-    pub(crate) fn up(self, mode: LineMode) -> DisplayAddress
-        ensures { λ r. ⌜ r ≡ upDisplay mode self ⌝ }
+    pub(crate) fn step(self, mode: LineMode, up: bool) -> DisplayAddress
+        ensures { λ r. ⌜ r ≡ stepDisplay mode up self ⌝ }
     {
         let n = self.0;
         match mode {
-            LineMode::One => {
-                if 0x4f <= n {
-                    DisplayAddress(0x00)
-                } else {
-                    DisplayAddress(n + 1)
-                }
-            }
+            LineMode::One => DisplayAddress(wrapped(up, 0x4f, n)),
             LineMode::Two => {
-                if n == 0x27 {
-                    DisplayAddress(0x40)
-                } else if 0x67 <= n {
-                    DisplayAddress(0x00)
+                if up {
+                    DisplayAddress(next_of_two(n))
                 } else {
-                    DisplayAddress(n + 1)
+                    DisplayAddress(previous_of_two(n))
                 }
             }
         }
     }
+}
 
-    pub(crate) fn down(self, mode: LineMode) -> DisplayAddress
-        ensures { λ r. ⌜ r ≡ downDisplay mode self ⌝ }
-    {
-        let n = self.0;
-        match mode {
-            LineMode::One => {
-                if n == 0x00 {
-                    DisplayAddress(0x4f)
-                } else {
-                    DisplayAddress(n - 1)
-                }
-            }
-            LineMode::Two => {
-                if n == 0x40 {
-                    DisplayAddress(0x27)
-                } else if n == 0x00 {
-                    DisplayAddress(0x67)
-                } else {
-                    DisplayAddress(n - 1)
-                }
-            }
-        }
-    }
+// With two lines there is no address between 27 and 40.
+fn next_of_two(n: u8) -> u8
+    ensures { λ r. ⌜ r ≡ stepDisplay LineMode.Two true (display n) .0 ⌝ }
+{
+    if n == 0x27 { 0x40 } else { next(0x67, n) }
+}
+
+fn previous_of_two(n: u8) -> u8
+    ensures { λ r. ⌜ r ≡ stepDisplay LineMode.Two false (display n) .0 ⌝ }
+{
+    if n == 0x40 { 0x27 } else { previous(0x67, n) }
 }
 
 impl CharacterAddress {
@@ -89,25 +74,9 @@ impl CharacterAddress {
         self.0 <= 0x3f
     }
 
-    pub(crate) fn up(self) -> CharacterAddress
-        ensures { λ r. ⌜ r ≡ upCharacter self ⌝ }
+    pub(crate) fn step(self, up: bool) -> CharacterAddress
+        ensures { λ r. ⌜ r ≡ stepCharacter up self ⌝ }
     {
-        let n = self.0;
-        if 0x3f <= n {
-            CharacterAddress(0x00)
-        } else {
-            CharacterAddress(n + 1)
-        }
-    }
-
-    pub(crate) fn down(self) -> CharacterAddress
-        ensures { λ r. ⌜ r ≡ downCharacter self ⌝ }
-    {
-        let n = self.0;
-        if n == 0x00 {
-            CharacterAddress(0x3f)
-        } else {
-            CharacterAddress(n - 1)
-        }
+        CharacterAddress(wrapped(up, 0x3f, self.0))
     }
 }

@@ -25,20 +25,8 @@ impl Counter {
         ensures { λ r. ⌜ r ≡ stepOf mode up self ⌝ }
     {
         match self {
-            Counter::Display(a) => {
-                if up {
-                    Counter::Display(a.up(mode))
-                } else {
-                    Counter::Display(a.down(mode))
-                }
-            }
-            Counter::Character(a) => {
-                if up {
-                    Counter::Character(a.up())
-                } else {
-                    Counter::Character(a.down())
-                }
-            }
+            Counter::Display(a) => Counter::Display(a.step(mode, up)),
+            Counter::Character(a) => Counter::Character(a.step(up)),
         }
     }
 

@@ -1,10 +1,11 @@
-// Places of the part: addresses on the bus, cells of storage, the counter and the shift, ordered by the line mode.
+// Memories and counters: addresses on the bus, cells of storage, the counter and the shift, as the line mode orders them.
 ghost use mathlib.Core.Path.{_≡_};
 ghost use Rattle.counters.specs.Shift.{lastShift};
 
 pub mod address;
 pub mod counter;
 pub mod shift;
+mod wrap;
 
 // N: how many lines the screen has.
 pub enum LineMode {

@@ -1,7 +1,8 @@
 // The shift: how far the display is moved to the left.
 ghost use mathlib.Core.Path.{_≡_};
-ghost use Rattle.counters.specs.Shift.{hasShift, leftOf, rightOf, moveOf};
+ghost use Rattle.counters.specs.Shift.{hasShift, moveOf};
 use super::LineMode;
+use super::wrap::wrapped;
 
 pub struct Shift(pub u8);
 
@@ -12,36 +13,10 @@ impl Shift {
         self.0 <= mode.last_shift()
     }
 
-    pub(crate) fn left(self, mode: LineMode) -> Shift
-        ensures { λ r. ⌜ r ≡ leftOf mode self ⌝ }
-    {
-        let n = self.0;
-        if mode.last_shift() <= n {
-            Shift(0)
-        } else {
-            Shift(n + 1)
-        }
-    }
-
-    pub(crate) fn right(self, mode: LineMode) -> Shift
-        ensures { λ r. ⌜ r ≡ rightOf mode self ⌝ }
-    {
-        let n = self.0;
-        if n == 0 {
-            Shift(mode.last_shift())
-        } else {
-            Shift(n - 1)
-        }
-    }
-
-    // One move of the display, right or left.
+    // One move of the display: left adds 1, right subtracts 1.
     pub fn moved(self, mode: LineMode, right: bool) -> Shift
         ensures { λ r. ⌜ r ≡ moveOf mode right self ⌝ }
     {
-        if right {
-            self.right(mode)
-        } else {
-            self.left(mode)
-        }
+        Shift(wrapped(!right, mode.last_shift(), self.0))
     }
 }

@@ -11,7 +11,7 @@ use Rattle.counters.specs.declared.address.DisplayAddress.{DisplayAddress}
 use Rattle.counters.specs.declared.address.Cell.{Cell}
 use Rattle.counters.specs.declared.shift.Shift.{Shift}
 use Rattle.counters.specs.Address.{display, cell, hasDisplay, cellOf, addressOf}
-use Rattle.counters.proofs.Laws.{address-of-cell-of, cell-of-address-of, address-exists}
+use Rattle.counters.proofs.Laws.{address-comes-back, cell-comes-back, address-exists}
 use Rattle.size.specs.Size.{linesOf, mostDigits}
 use Rattle.dots.specs.Digit.{shownOn}
 
@@ -31,9 +31,9 @@ one-address : (lines : LineMode) (s : Shift) (line d e : ℕ) → line < linesOf
 one-address lines s line d e hl hd he h =
     shown-digit lines s line d e hd he
     (ap (λ (c : Cell). c .0)
-    (sym (cell-of-address-of lines (shownOn lines s line d) (shown-small lines s line d hl))
+    (sym (cell-comes-back lines (shownOn lines s line d) (shown-small lines s line d hl))
     ∙ ap (λ (n : ℕ). cellOf lines (display n)) h
-    ∙ cell-of-address-of lines (shownOn lines s line e) (shown-small lines s line e hl)))
+    ∙ cell-comes-back lines (shownOn lines s line e) (shown-small lines s line e hl)))
 
 -- ---- the digit that shows a cell
 shown-line : (lines : LineMode) (s : Shift) (line d : ℕ) → lines ≡ Two → shownOn lines s line d .0 / 40 ≡ line
@@ -91,7 +91,7 @@ module _ (lines : LineMode) (s : Shift) (line digits n : ℕ) where
         marked-here k hl hm (shown .0)
         (ap (λ (m : ℕ). addressOf lines (cell m) .0) (shown .1)
         ∙ ap (λ (c : Cell). addressOf lines c .0) found
-        ∙ ap (λ (a : DisplayAddress). a .0) (address-of-cell-of lines (display n) t))
+        ∙ ap (λ (a : DisplayAddress). a .0) (address-comes-back lines (display n) t))
 
     -- and none of the other line
     pub marked-elsewhere : line < linesOf lines → lines ≡ Two → (at .0 / 40 ≡ line → ⊥)
@@ -102,5 +102,5 @@ module _ (lines : LineMode) (s : Shift) (line digits n : ℕ) where
         (ap (λ (c : Cell). c .0 / 40)
         (found
         ∙ ap (λ (m : ℕ). cellOf lines (display m)) (sym e)
-        ∙ cell-of-address-of lines (shownOn lines s line d) (shown-small lines s line d hl))
+        ∙ cell-comes-back lines (shownOn lines s line d) (shown-small lines s line d hl))
         ∙ shown-line lines s line d two))

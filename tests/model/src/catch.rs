@@ -6,23 +6,18 @@ use crate::model::rules::PAPER;
 use crate::programs::{Itself, Printed, Programs};
 use crate::wrong::{self, Wrong};
 
-/// How often a wrong model was caught.
+/// A wrong model and the first record that caught it.
 struct Caught {
     wrong: &'static Wrong,
     first: Option<u64>,
-    records: u64,
 }
 
-/// Runs every wrong model beside the programs. A record catches it where the programs print what
-/// the paper's rules say and the wrong model does not.
+/// Runs every wrong model beside the programs until a record catches it: one where the programs
+/// print what the paper's rules say and the wrong model does not.
 pub fn catch_wrong(run: &Run, programs: &dyn Programs) -> bool {
     let mut list: Vec<Caught> = wrong::all()
         .into_iter()
-        .map(|wrong| Caught {
-            wrong,
-            first: None,
-            records: 0,
-        })
+        .map(|wrong| Caught { wrong, first: None })
         .collect();
     let (mut records, mut differing) = (0, 0);
     for number in run.numbers() {
@@ -34,18 +29,17 @@ pub fn catch_wrong(run: &Run, programs: &dyn Programs) -> bool {
             continue;
         }
         records += 1;
-        for caught in &mut list {
+        for caught in list.iter_mut().filter(|caught| caught.first.is_none()) {
             let rules = &caught.wrong.rules;
             if printed(&Itself { rules }, &case) != right {
-                caught.first.get_or_insert(number);
-                caught.records += 1;
+                caught.first = Some(number);
             }
         }
     }
     for caught in &list {
         let name = caught.wrong.name;
         match caught.first {
-            Some(first) => println!("{name}: first at record {first}, {} in all", caught.records),
+            Some(first) => println!("{name}: caught at record {first}"),
             None => println!("{name}: NOT CAUGHT"),
         }
     }

@@ -1,3 +1,4 @@
+-- A case for each line mode.
 use Rattle.counters.specs.Shift.{lastShift}
 use borrow.Author.Needs.{needs}
 use Rattle.counters.proofs.LineMode.last_shift.Statement.{statement}

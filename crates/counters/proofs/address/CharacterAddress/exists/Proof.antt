@@ -1,3 +1,4 @@
+-- The test of the code is the rule's.
 use mathlib.Core.Path.{refl}
 use Rattle.counters.specs.Address.{hasCharacter}
 use Rattle.counters.proofs.address.CharacterAddress.exists.Statement.{statement}

@@ -1,4 +1,5 @@
-use Prim.Native.Nat.{_+_, _-_}
+-- By line mode and, with two lines, by the test of 40.
+use Prim.Native.Nat.{ℕ, _+_, _-_}
 use mathlib.Core.Path.{_≡_}
 use native.Mathlib.Omega.{arith}
 use borrow.Author.Tests.{lt-ltb, le-ltb}
@@ -26,7 +27,10 @@ returns-2 c = rw (c .before .enum-told2 .given .1, lt-ltb _ _ (c .if1 .taken))
 
 returns-3 : tie.Need-returns-3
 unfolding cellOf
-returns-3 c = let n = c .before .before .before .args .self .0 in let e : n - 0x40 + 40 ≡ n - 24 = omega arith in rw (c .before .enum-told2 .given .1, le-ltb _ _ (c .if1 .left), e)
+returns-3 c =
+    let n : ℕ = c .before .before .before .args .self .0 in
+    let e : n - 0x40 + 40 ≡ n - 24 = omega arith in
+    rw (c .before .enum-told2 .given .1, le-ltb _ _ (c .if1 .left), e)
 
 pub cell-spec : {M : Type 1} → statement M
 cell-spec = tie.close (tie.spec enum-told enum-told-2 sub-t7 returns returns-2 returns-3)

@@ -1,3 +1,4 @@
+-- By line mode, the test of the rule.
 use Rattle.counters.specs.Address.{hasDisplay}
 use borrow.Author.Needs.{needs}
 use Rattle.counters.proofs.address.DisplayAddress.exists.Statement.{statement}

@@ -1,3 +1,5 @@
+-- By the memory that the counter belongs to, the test of its address.
+use Rattle.condition.proofs.Tests.{met}
 use Rattle.counters.specs.Counter.{hasCounter}
 use borrow.Author.Needs.{needs}
 use Rattle.counters.proofs.counter.Counter.exists.Statement.{statement}
@@ -17,11 +19,11 @@ exists-requires-2 c κs = search needs
 
 returns : tie.Need-returns
 unfolding hasCounter
-returns c = cc
+returns c = met (hasCounter _) (c .before .before .self .given .1) (c .exists .ensures)
 
 returns-2 : tie.Need-returns-2
 unfolding hasCounter
-returns-2 c = cc
+returns-2 c = met (hasCounter _) (c .before .before .self2 .given .1) (c .exists2 .ensures)
 
 pub exists-spec : {M : Type 1} → statement M
 exists-spec =

@@ -1,0 +1,31 @@
+-- A picture that is drawn over itself is the same picture, with the same answer.
+use Prim.Native.Nat.{ℕ}
+use mathlib.Core.Path.{_≡_, refl, sym, ap, _∙_}
+use mathlib.Core.Bool.{Bool, true, false, cond}
+use mathlib.Core.List.{List}
+use lib.Dec.{eqb}
+use lib.ListN.{length}
+use lib.Seq.{drop-append-seam}
+use Rattle.controller.specs.declared.Controller.{Controller}
+use Rattle.picture.specs.declared.Answer.{Answer}
+use Rattle.picture.specs.declared.Phase.{Phase}
+use Rattle.picture.specs.Table.{over}
+use Rattle.picture.specs.Picture.{pictureOf}
+use Rattle.picture.specs.Answers.{numberOf, answerFor, bufferFor, Pictured}
+
+written-again : (b : Bool) (new out : List ℕ) → cond b (over new (cond b (over new out) out)) (cond b (over new out) out) ≡ cond b (over new out) out
+unfolding over
+written-again true new out = rw (drop-append-seam new _)
+written-again false new out = refl
+
+module _ (c : Controller) (digits : ℕ) (rom : List ℕ) (phase : Phase) (out once : List ℕ) (first : Answer) (p : Pictured c digits rom phase out first once)
+    (e : length once ≡ length out) (twice : List ℕ) (second : Answer) (q : Pictured c digits rom phase once second twice) where
+  pub answered-again : numberOf second ≡ numberOf first
+  answered-again = q .number ∙ ap (answerFor c digits (length rom)) e ∙ sym (p .number)
+
+  pub drawn-again : twice ≡ once
+  unfolding bufferFor
+  drawn-again =
+      rw (e, p .buffer) at (q .buffer)
+      ∙ written-again (eqb (answerFor c digits (length rom) (length out)) 0) (pictureOf c digits rom phase) out
+      ∙ sym (p .buffer)

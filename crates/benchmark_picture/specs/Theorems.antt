@@ -1,0 +1,13 @@
+-- Any two outcomes that the promise of `benchmark_picture` allows are equal.
+use Prim.Native.Nat.{ℕ}
+use mathlib.Core.Path.{_≡_}
+use mathlib.Core.Bool.{Bool}
+use mathlib.Core.List.{List}
+use Rattle.benchmark_picture.specs.Drawn.{Drawn}
+
+abbrev pub PictureSettled : Type 0
+PictureSettled =
+    (bytes : List ℕ) (digits : ℕ) (rom : List ℕ) (dark : Bool) (out : List ℕ) (number number′ : ℕ) (left left′ : List ℕ)
+    → Drawn bytes digits rom dark out number left
+    → Drawn bytes digits rom dark out number′ left′
+    → (number ≡ number′) × (left ≡ left′)

@@ -1,0 +1,56 @@
+-- The nine ranges of the instruction byte: the tests of the lower ranges fail, and its own holds.
+use Prim.Native.Nat.{ℕ, _%_}
+use mathlib.Core.Path.{_≡_, refl}
+use mathlib.Core.Bool.{Bool}
+use native.Mathlib.Omega.{arith}
+use lib.Dec.{ltb, ltb→lt, nltb→le}
+use borrow.Author.Tests.{lt-ltb, le-ltb}
+use Rattle.condition.proofs.Tests.{split}
+use Rattle.counters.specs.declared.address.DisplayAddress.{DisplayAddress}
+use Rattle.counters.specs.Address.{character}
+use Rattle.halves.specs.declared.LineCount.{LineCount}
+use Rattle.controller.specs.declared.registers.Mode.{Mode}
+use Rattle.controller.specs.declared.registers.Entry.{Entry}
+use Rattle.controller.specs.declared.registers.Lights.{Lights}
+use Rattle.instructions.specs.declared.instruction.Instruction.{Instruction}
+use Rattle.instructions.specs.declared.instruction.Instruction.the-variants.{Nothing, Clear, Home, EntryMode, OnOff, Move, FunctionSet, SetCharacter, SetDisplay}
+use Rattle.instructions.specs.Instructions.{decode}
+use Rattle.instructions.specs.Theorems.{DecodedByRange}
+
+pub decoded-by-range : DecodedByRange
+unfolding decode
+decoded-by-range b = record {
+  nothing = λ h. simp (lt-ltb b 0x01 h);
+  clear = λ l h. simp (le-ltb b 0x01 l, lt-ltb b 0x02 h);
+  home = λ l h. simp (le-ltb b 0x01 (omega arith), le-ltb b 0x02 l, lt-ltb b 0x04 h);
+  entry = λ l h. simp (le-ltb b 0x01 (omega arith), le-ltb b 0x02 (omega arith), le-ltb b 0x04 l, lt-ltb b 0x08 h);
+  lights = λ l h. simp (le-ltb b 0x01 (omega arith), le-ltb b 0x02 (omega arith), le-ltb b 0x04 (omega arith), le-ltb b 0x08 l, lt-ltb b 0x10 h);
+  move = λ l h. simp (le-ltb b 0x01 (omega arith), le-ltb b 0x02 (omega arith), le-ltb b 0x04 (omega arith), le-ltb b 0x08 (omega arith), le-ltb b 0x10 l, lt-ltb b 0x20 h);
+  set = λ l h. simp (le-ltb b 0x01 (omega arith), le-ltb b 0x02 (omega arith), le-ltb b 0x04 (omega arith), le-ltb b 0x08 (omega arith), le-ltb b 0x10 (omega arith), le-ltb b 0x20 l, lt-ltb b 0x40 h);
+  character = λ l h. simp (le-ltb b 0x01 (omega arith), le-ltb b 0x02 (omega arith), le-ltb b 0x04 (omega arith), le-ltb b 0x08 (omega arith), le-ltb b 0x10 (omega arith), le-ltb b 0x20 (omega arith), le-ltb b 0x40 l, lt-ltb b 0x80 h);
+  display = λ l. simp (le-ltb b 0x01 (omega arith), le-ltb b 0x02 (omega arith), le-ltb b 0x04 (omega arith), le-ltb b 0x08 (omega arith), le-ltb b 0x10 (omega arith), le-ltb b 0x20 (omega arith), le-ltb b 0x40 (omega arith), le-ltb b 0x80 l);
+}
+
+-- ---- a fact of each instruction that a byte can be is a fact of the byte's own
+pub record Each (P : Instruction → Type 0) (b : ℕ) : Type 0 where
+  pub nothing : P Nothing
+  pub clear : b ≡ 0x01 → P Clear
+  pub home : P Home
+  pub entry : (e : Entry) → P (EntryMode e)
+  pub lights : (l : Lights) → P (OnOff l)
+  pub move : (display right : Bool) → P (Move display right)
+  pub set : (c : LineCount) (m : Mode) → P (FunctionSet c m)
+  pub character : P (SetCharacter (character (b % 0x40)))
+  pub display : (a : DisplayAddress) → P (SetDisplay a)
+
+pub of-decoded : (P : Instruction → Type 0) (b : ℕ) → Each P b → P (decode b)
+unfolding decode
+of-decoded P b f =
+    split P (ltb b 0x01) (λ t. f .nothing) (λ t.
+    split P (ltb b 0x02) (λ u. f .clear (omega (arith, nltb→le b 0x01 t, ltb→lt b 0x02 u))) (λ u.
+    split P (ltb b 0x04) (λ v. f .home) (λ v.
+    split P (ltb b 0x08) (λ v. f .entry _) (λ v.
+    split P (ltb b 0x10) (λ v. f .lights _) (λ v.
+    split P (ltb b 0x20) (λ v. f .move _ _) (λ v.
+    split P (ltb b 0x40) (λ v. f .set _ _) (λ v.
+    split P (ltb b 0x80) (λ v. f .character) (λ v. f .display _))))))))

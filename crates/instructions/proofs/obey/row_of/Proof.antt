@@ -1,0 +1,141 @@
+-- Each arm is its row of the table.
+use Prim.Native.Nat.{ℕ}
+use mathlib.Core.Path.{_≡_, refl}
+use mathlib.Core.Bool.{false}
+use Rattle.counters.specs.declared.address.DisplayAddress.{DisplayAddress}
+use Rattle.counters.specs.Address.{hasDisplay}
+use Rattle.controller.specs.declared.answer.Answer.{Answer}
+use Rattle.controller.specs.declared.registers.Registers.{Registers}
+use Rattle.instructions.specs.declared.instruction.Instruction.{Instruction}
+use Rattle.instructions.specs.declared.instruction.Instruction.the-variants.{SetDisplay}
+use Rattle.instructions.specs.Instructions.{rowOf, obey}
+use Rattle.instructions.specs.Obeyed.{obeyedAs}
+use borrow.Author.Needs.{needs}
+use Rattle.instructions.proofs.obey.row_of.Statement.{statement}
+use Rattle.instructions.proofs.obey.row_of.Tie as tie
+
+does : (r : Registers) {i j : Instruction} {s : Registers} {t : ℕ} → i ≡ j → rowOf j r .lacks ≡ false → s ≡ rowOf j r .effect → t ≡ rowOf j r .ticks
+    → obeyedAs (record { registers = s; ticks = t; answer = Answer.Done 0 }) (obey i r .change) ≡ obey i r
+unfolding obey
+does r p l q u = rw (p, l, q, u)
+
+lacks : (r : Registers) {i : Instruction} (a : DisplayAddress) → i ≡ SetDisplay a → hasDisplay (r .mode .lines) a ≡ false
+    → obeyedAs (record { registers = r; ticks = r .busy; answer = Answer.NoSuchAddress }) (obey i r .change) ≡ obey i r
+unfolding obey
+lacks r a p l = rw (p, l)
+
+enum-told : tie.Need-enum-told
+enum-told c = search needs
+
+enum-told-2 : tie.Need-enum-told-2
+enum-told-2 c = search needs
+
+homed-requires : tie.Need-homed-requires
+homed-requires c κs = search needs
+
+enum-told-3 : tie.Need-enum-told-3
+enum-told-3 c = search needs
+
+homed-requires-2 : tie.Need-homed-requires-2
+homed-requires-2 c κs = search needs
+
+enum-known-instruction : tie.Need-enum-known-instruction
+enum-known-instruction c = search needs
+
+enum-known-instruction-2 : tie.Need-enum-known-instruction-2
+enum-known-instruction-2 c = search needs
+
+enum-known-instruction-3 : tie.Need-enum-known-instruction-3
+enum-known-instruction-3 c = search needs
+
+moved-requires : tie.Need-moved-requires
+moved-requires c κs = search needs
+
+enum-known-instruction-4 : tie.Need-enum-known-instruction-4
+enum-known-instruction-4 c = search needs
+
+arranged-requires : tie.Need-arranged-requires
+arranged-requires c κs = search needs
+
+enum-known-instruction-5 : tie.Need-enum-known-instruction-5
+enum-known-instruction-5 c = search needs
+
+enum-known-instruction-6 : tie.Need-enum-known-instruction-6
+enum-known-instruction-6 c = search needs
+
+exists-requires : tie.Need-exists-requires
+exists-requires c κs = search needs
+
+returns : tie.Need-returns
+unfolding rowOf
+returns c = does _ (c .enum-told .given .1) refl refl refl
+
+returns-2 : tie.Need-returns-2
+unfolding rowOf
+returns-2 c = does _ (c .before .enum-told2 .given .1) refl (c .homed .ensures) refl
+
+returns-3 : tie.Need-returns-3
+unfolding rowOf
+returns-3 c = does _ (c .before .enum-told3 .given .1) refl (c .homed2 .ensures) refl
+
+returns-4 : tie.Need-returns-4
+unfolding rowOf
+returns-4 c = does _ (c .before .before .before .before .instruction .given .1) refl refl refl
+
+returns-5 : tie.Need-returns-5
+unfolding rowOf
+returns-5 c = does _ (c .before .before .before .before .instruction2 .given .1) refl refl refl
+
+returns-6 : tie.Need-returns-6
+unfolding rowOf
+returns-6 c = does _ (c .before .before .instruction3 .given .1) refl (c .moved .ensures) refl
+
+returns-7 : tie.Need-returns-7
+unfolding rowOf
+returns-7 c = does _ (c .before .before .instruction4 .given .1) refl (c .arranged .ensures) refl
+
+returns-8 : tie.Need-returns-8
+unfolding rowOf
+returns-8 c = let met = c .before .before .before .before .before in does _ (met .instruction5 .given .1) refl refl refl
+
+returns-9 : tie.Need-returns-9
+unfolding rowOf
+returns-9 c =
+    let tested = c .before .before .before .before in
+    let met = tested .before .before .before in
+    does _ (met .instruction6 .given .1) (rw (← tested .before .exists .ensures, tested .if1 .taken)) refl refl
+
+returns-10 : tie.Need-returns-10
+unfolding rowOf
+returns-10 c =
+    let met = c .before .before .before in
+    lacks _ _ (met .instruction6 .given .1) (rw (← c .before .exists .ensures, c .if1 .left))
+
+pub row-of-spec : {M : Type 1} → statement M
+row-of-spec =
+    tie.close
+    (tie.spec
+    enum-told
+    enum-told-2
+    homed-requires
+    enum-told-3
+    homed-requires-2
+    enum-known-instruction
+    enum-known-instruction-2
+    enum-known-instruction-3
+    moved-requires
+    enum-known-instruction-4
+    arranged-requires
+    enum-known-instruction-5
+    enum-known-instruction-6
+    exists-requires
+    returns
+    returns-2
+    returns-3
+    returns-4
+    returns-5
+    returns-6
+    returns-7
+    returns-8
+    returns-9
+    returns-10)

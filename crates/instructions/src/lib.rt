@@ -1,0 +1,3 @@
+// The nine instructions: which one a byte is, and what each does to the registers.
+pub mod instruction;
+pub mod obey;

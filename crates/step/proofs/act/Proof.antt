@@ -1,0 +1,97 @@
+-- Each arm by the law of its kind.
+use Rattle.controller.specs.Part.{with}
+use Rattle.controller.proofs.Ranged.{counter-exists}
+use Rattle.step.proofs.Acting.{instruction-acts, write-acts, status-acts, read-acts}
+use borrow.Author.Needs.{needs}
+use Rattle.step.proofs.act.Statement.{statement}
+use Rattle.step.proofs.act.Tie as tie
+
+enum-told : tie.Need-enum-told
+enum-told c = search needs
+
+clear-requires : tie.Need-clear-requires
+clear-requires c κs = search needs
+
+decode-requires : tie.Need-decode-requires
+decode-requires c κs = search needs
+
+obey-requires : tie.Need-obey-requires
+obey-requires c κs = search needs
+
+enum-told-2 : tie.Need-enum-told-2
+enum-told-2 c = search needs
+
+store-requires : tie.Need-store-requires
+store-requires c κs = counter-exists _ (c .before .before .before .before .pre .0)
+
+written-requires : tie.Need-written-requires
+written-requires c κs = search needs
+
+enum-told-3 : tie.Need-enum-told-3
+enum-told-3 c = search needs
+
+status-requires : tie.Need-status-requires
+status-requires c κs = counter-exists _ (c .before .before .pre .0)
+
+answered-requires : tie.Need-answered-requires
+answered-requires c κs = search needs
+
+enum-told-4 : tie.Need-enum-told-4
+enum-told-4 c = search needs
+
+addressed-requires : tie.Need-addressed-requires
+addressed-requires c κs = counter-exists _ (c .before .before .before .before .pre .0)
+
+answered-requires-2 : tie.Need-answered-requires-2
+answered-requires-2 c κs = search needs
+
+read-requires : tie.Need-read-requires
+read-requires c κs = search needs
+
+returns : tie.Need-returns
+returns c =
+    let cleared = c .before .before .before in
+    let start = cleared .before .before .before .before in
+    let obeyed = rw (c .before .before .decode .ensures) at (c .before .obey .ensures) in
+    instruction-acts (with (start .args .display .now) (start .args .character .now) (start .args .registers)) (start .args .byte) (c .before .obey .result) (cleared .before .before .enum-told .given .1) (cleared .clear .ensures) obeyed
+
+returns-2 : tie.Need-returns-2
+returns-2 c =
+    let stored = c .before in
+    let start = stored .before .before .before .before .before in
+    write-acts (with (start .args .display .now) (start .args .character .now) (start .args .registers)) (start .args .byte) (start .pre .1) (stored .before .before .before .enum-told2 .given .1) (stored .store .ensures) (c .written .ensures)
+
+returns-3 : tie.Need-returns-3
+returns-3 c =
+    let start = c .before .before .before .before in
+    status-acts (with (start .args .display .now) (start .args .character .now) (start .args .registers)) (start .args .byte) (start .pre .1) (c .before .before .enum-told3 .given .1) (rw (c .answered .ensures, c .before .status .ensures))
+
+returns-4 : tie.Need-returns-4
+returns-4 c =
+    let addressed = c .before .before in
+    let told = addressed .before .before .before in
+    let start = told .before .before in
+    read-acts (with (start .args .display .now) (start .args .character .now) (start .args .registers)) (start .args .byte) (start .pre .1) (told .enum-told4 .given .1) (rw (c .before .answered2 .ensures, addressed .addressed .ensures)) (c .read .ensures)
+
+pub act-spec : {M : Type 1} → statement M
+act-spec =
+    tie.close
+    (tie.spec
+    enum-told
+    clear-requires
+    decode-requires
+    obey-requires
+    enum-told-2
+    store-requires
+    written-requires
+    enum-told-3
+    status-requires
+    answered-requires
+    enum-told-4
+    addressed-requires
+    answered-requires-2
+    read-requires
+    returns
+    returns-2
+    returns-3
+    returns-4)
