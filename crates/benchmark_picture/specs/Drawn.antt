@@ -5,7 +5,7 @@ use mathlib.Core.Bool.{Bool, true, false}
 use mathlib.Core.List.{List}
 use lib.ListN.{length}
 use Rattle.run.specs.Run.{leftBy}
-use Rattle.picture.specs.declared.Phase.{Phase}
+use Rattle.dots.specs.declared.phase.Phase.{Phase}
 use Rattle.picture.specs.Answers.{answerFor, bufferFor}
 
 abbrev pub phaseOf : Bool → Phase

@@ -1,7 +1,7 @@
 // What the benchmark calls from C: the picture of the part that a record leaves.
 ghost use mathlib.Core.Path.{_≡_};
 ghost use Rattle.benchmark_picture.specs.Drawn.{phaseOf, Drawn};
-use picture::Phase;
+use dots::Phase;
 use picture::picture;
 use run::run;
 

@@ -3,3 +3,4 @@ pub mod Stored
 pub mod Placed
 pub mod Returned
 pub mod Lists
+pub mod Front

@@ -1,6 +1,4 @@
-pub mod Lists
-pub mod Columns
-pub mod Marks
-pub mod Dots
+pub mod Lines
 pub mod Promise
+pub mod Settled
 pub mod Theorems

@@ -1,64 +1,59 @@
--- The claims about the picture, proved.
+-- The theorems about the picture: from its bytes by index, and from what its dots depend on.
 use Prim.Native.Nat.{ℕ, zero, suc, _+_, _*_, _-_, _<_, _≤_}
 use mathlib.Core.Path.{_≡_, refl, ap, sym, _∙_}
-use mathlib.Core.Bool.{Bool, true, false, cond}
+use mathlib.Core.Bool.{Bool, true, false, cond, _&&_, not}
 use mathlib.Core.List.{List, [], _∷_, _++_}
 use native.Mathlib.Nat.{mul-assoc, add-mul, add-assoc}
 use native.Mathlib.Omega.{arith}
 use lib.Arith.{digits-lt}
-use lib.Dec.{eqb, ltb, ltb→lt}
+use lib.Dec.{T, ltb, ltb→lt, nltb→le}
 use lib.ListN.{length, drop, getD, length-append, length-drop, List·getD-append}
 use lib.Seq.{getD-drop, getD-append-add, getD-set-other}
-use borrow.Author.Tests.{ne-eqb, leb-true}
+use borrow.Author.Tests.{ne-eqb}
+use Rattle.condition.specs.First.{Rule, firstOf, absent, distinct}
+use Rattle.condition.proofs.Tests.{split, and-left, and-right}
+use Rattle.condition.proofs.First.{first-given-exactly}
 use Rattle.counters.specs.declared.LineMode.the-variants.{Two}
 use Rattle.counters.specs.declared.address.Cell.{Cell}
 use Rattle.counters.specs.Address.{addressOf}
 use Rattle.counters.specs.Counter.{numberOn}
-use Rattle.condition.proofs.Tests.{split}
+use Rattle.lent.specs.Buffer.{over}
+use Rattle.lent.specs.Lists.{values, parts}
+use Rattle.lent.proofs.Left.{done-writes}
+use Rattle.lent.proofs.Lists.{length-parts, length-values, parts-same, parts-at, values-same, values-at}
 use Rattle.controller.specs.declared.Controller.{Controller}
 use Rattle.controller.specs.declared.registers.Mode.{Mode}
 use Rattle.controller.specs.Part.{inRange}
-use Rattle.picture.specs.declared.Answer.{Answer}
-use Rattle.picture.specs.declared.Answer.the-variants.{Done, Digits, Rom, Short, NotInRange}
-use Rattle.picture.specs.declared.Phase.{Phase}
-use Rattle.picture.specs.Digit.{linesOf, shownOn}
-use Rattle.picture.specs.Table.{table, parts, over}
-use Rattle.picture.specs.Picture.{rowsOf, bytesOf, isMarked, fiveOf, cellDots, dotsAt, pictureOf}
-use Rattle.picture.specs.Answers.{numberOf, hasDigits, answerFor, bufferFor, Pictured}
-use Rattle.picture.specs.Claims.{OneOutcome, ByteByByte, RestStays, SameScreen, OnlyTheScreenMatters, DisplayOffIsZeros, FiveBitsOnly, written, OnlyShownCellsMatter, GapMarksNothing}
-use Rattle.picture.proofs.Lists.{length-parts, length-table, parts-same, parts-at, table-same, table-at}
-use Rattle.picture.proofs.Dots.{length-picture, off-dots}
+use Rattle.size.specs.Size.{linesOf, rowsOf, bytesOf}
+use Rattle.dots.specs.declared.phase.Phase.{Phase}
+use Rattle.dots.specs.Digit.{shownOn}
+use Rattle.dots.specs.Dots.{isMarked, fiveOf, cellDots, dotsAt, lineOf}
+use Rattle.picture.specs.declared.Answer.the-variants.{Done}
+use Rattle.picture.specs.Picture.{pictureOf}
+use Rattle.picture.specs.Answers.{refusals, answerFor, bufferFor, Pictured}
+use Rattle.picture.specs.Theorems.{PictureGivenExactly, ByteByByte, RestStays, SameScreen, OnlyTheScreenMatters, DisplayOffIsZeros, FiveBitsOnly, storedIn, OnlyShownCellsMatter, GapMarksNothing}
+use Rattle.picture.proofs.Lines.{length-picture, off-dots}
 
--- ---- the promise settles the answer and every byte of the buffer
-answerOf : ℕ → Answer
-answerOf n = cond (eqb n 0) Done (cond (eqb n 4) Digits (cond (eqb n 5) Rom (cond (eqb n 6) Short NotInRange)))
-
-answer-of-number : (r : Answer) → answerOf (numberOf r) ≡ r
-unfolding answerOf
-answer-of-number Done = refl
-answer-of-number Digits = refl
-answer-of-number Rom = refl
-answer-of-number Short = refl
-answer-of-number NotInRange = refl
-
-pub one-outcome : OneOutcome
-one-outcome c digits rom phase out answer other left leftOther p q =
-    (sym (answer-of-number answer) ∙ ap answerOf (p .number ∙ sym (q .number)) ∙ answer-of-number other, p .buffer ∙ sym (q .buffer))
+-- ---- exactly when
+pub picture-given-exactly : PictureGivenExactly
+unfolding answerFor refusals absent distinct
+picture-given-exactly c digits rom phase out answer left p =
+    rw (p .number) (first-given-exactly (refusals c digits (length rom) (length out)) 0 tt)
 
 -- ---- by index
 picture-at : (c : Controller) (digits : ℕ) (rom : List ℕ) (phase : Phase) (line row digit : ℕ) → line < linesOf (c .registers .mode .lines) → row < rowsOf (c .registers .mode) → digit < digits
     → getD (pictureOf c digits rom phase) ((line * rowsOf (c .registers .mode) + row) * digits + digit) 0 ≡ dotsAt c rom phase line row digit
-unfolding pictureOf
+unfolding pictureOf lineOf
 picture-at c digits rom phase line row digit hl hr hd =
     rw (add-mul, mul-assoc, add-assoc)
-    (parts-at _ _ _ line (row * digits + digit) (λ q. length-parts _ digits _ (λ k. length-table digits _)) hl (digits-lt hr hd)
-    ∙ parts-at _ digits _ row digit (λ q. length-table digits _) hr hd
-    ∙ table-at digits _ digit hd)
+    (parts-at _ _ _ line (row * digits + digit) (λ q. length-parts _ digits _ (λ k. length-values digits _)) hl (digits-lt hr hd)
+    ∙ parts-at _ digits _ row digit (λ q. length-values digits _) hr hd
+    ∙ values-at digits _ digit hd)
 
 -- a call that is done leaves the picture over the buffer
 done-over : (c : Controller) (digits : ℕ) (rom : List ℕ) (phase : Phase) (out left : List ℕ) → Pictured c digits rom phase out Done left → left ≡ over (pictureOf c digits rom phase) out
 unfolding bufferFor
-done-over c digits rom phase out left p = p .buffer ∙ simp (sym (p .number))
+done-over c digits rom phase out left p = p .buffer ∙ sym (done-writes _ _ out (sym (p .number)))
 
 pub byte-by-byte : ByteByByte
 unfolding over
@@ -67,17 +62,28 @@ byte-by-byte c digits rom phase out left p line row digit hl hr hd =
     (List·getD-append (pictureOf c digits rom phase) _ 0 _ (rw length-picture (digits-lt (digits-lt hl hr) hd))
     ∙ picture-at c digits rom phase line row digit hl hr hd)
 
-fits : (a b c d : Bool) → _≡_ {A = ℕ} 0 (cond a (cond b (cond c (cond d 0 6) 5) 4) 16) → d ≡ true
-fits a b c true h = refl
-fits true true true false h = absurd (omega arith)
-fits true true false false h = absurd (omega arith)
-fits true false c false h = absurd (omega arith)
-fits false b c false h = absurd (omega arith)
+-- a call that is done found none of its conditions
+abbrev Unmet : List Rule → Type 0
+Unmet [] = T true
+Unmet (rule ∷ rules) = T (not (rule .condition)) × Unmet rules
 
+abbrev positive : List Rule → Bool
+positive [] = true
+positive (rule ∷ rules) = ltb 0 (rule .number) && positive rules
+
+unmet : (rules : List Rule) → T (positive rules) → firstOf rules 0 ≡ 0 → Unmet rules
+unfolding firstOf
+unmet [] t = λ e. tt
+unmet (rule ∷ rules) t =
+    split (λ (n : ℕ). n ≡ 0 → Unmet (rule ∷ rules)) (rule .condition)
+    (λ u e. absurd (omega (arith, ltb→lt 0 (rule .number) (and-left (ltb 0 (rule .number)) (positive rules) t))))
+    (λ u e. (u, unmet rules (and-right (ltb 0 (rule .number)) (positive rules) t) e))
+
+-- so its buffer had room
 has-room : (c : Controller) (digits : ℕ) (rom : List ℕ) (phase : Phase) (out left : List ℕ) → Pictured c digits rom phase out Done left → bytesOf (c .registers .mode) digits ≤ length out
-unfolding answerFor
+unfolding answerFor refusals
 has-room c digits rom phase out left p =
-    leb-true _ _ (fits (inRange (c .registers)) (hasDigits (c .registers .mode .lines) digits) (eqb (length rom) 4096) _ (p .number))
+    nltb→le (length out) (bytesOf (c .registers .mode) digits) (unmet (refusals c digits (length rom) (length out)) tt (sym (p .number)) .1 .1 .1 .0)
 
 over-behind : (new out : List ℕ) (k : ℕ) → length new ≤ k → getD (over new out) k 0 ≡ getD out k 0
 unfolding over
@@ -95,18 +101,18 @@ rest-stays c digits rom phase out left p =
 
 -- ---- what the picture depends on
 same-answer : (a b : Controller) → SameScreen a b → inRange (a .registers) ≡ true → inRange (b .registers) ≡ true → (digits m n : ℕ) → answerFor a digits m n ≡ answerFor b digits m n
-unfolding answerFor
+unfolding answerFor refusals firstOf
 same-answer a b same ra rb digits m n = simp (ra, rb, same .mode)
 
 grid-same : (l m r q digits : ℕ) (f g : ℕ → ℕ → ℕ → ℕ) → l ≡ m → r ≡ q → ((line row digit : ℕ) → line < m → digit < digits → f line row digit ≡ g line row digit)
-    → parts l (λ line. parts r (λ row. table digits (f line row))) ≡ parts m (λ line. parts q (λ row. table digits (g line row)))
+    → parts l (λ line. parts r (λ row. values digits (f line row))) ≡ parts m (λ line. parts q (λ row. values digits (g line row)))
 grid-same l m r q digits f g el er same =
-    rw (el, er) (parts-same _ _ _ (λ line hl. parts-same _ _ _ (λ row hr. table-same digits _ _ (λ digit hd. same line row digit hl hd))))
+    rw (el, er) (parts-same _ _ _ (λ line hl. parts-same _ _ _ (λ row hr. values-same digits _ _ (λ digit hd. same line row digit hl hd))))
 
 picture-same : (a b : Controller) (digits : ℕ) (rom : List ℕ) (phase : Phase) → a .registers .mode ≡ b .registers .mode
     → ((line row digit : ℕ) → line < linesOf (b .registers .mode .lines) → digit < digits → dotsAt a rom phase line row digit ≡ dotsAt b rom phase line row digit)
     → pictureOf a digits rom phase ≡ pictureOf b digits rom phase
-unfolding pictureOf
+unfolding pictureOf lineOf
 picture-same a b digits rom phase e same =
     grid-same _ _ _ _ digits (dotsAt a rom phase) (dotsAt b rom phase) (ap (λ (m : Mode). linesOf (m .lines)) e) (ap rowsOf e) same
 
@@ -122,13 +128,13 @@ only-the-screen-matters a b same ra rb digits rom phase out =
 
 unseen-dots : (c : Controller) (rom : List ℕ) (phase : Phase) (cell byte line row digit : ℕ)
     → (shownOn (c .registers .mode .lines) (c .registers .shift) line digit .0 ≡ cell → ⊥)
-    → dotsAt (written c cell byte) rom phase line row digit ≡ dotsAt c rom phase line row digit
+    → dotsAt (storedIn c cell byte) rom phase line row digit ≡ dotsAt c rom phase line row digit
 unfolding dotsAt cellDots
 unseen-dots c rom phase cell byte line row digit other = rw (getD-set-other (c .display) cell _ byte 0 other)
 
 pub only-shown-cells-matter : OnlyShownCellsMatter
 only-shown-cells-matter c digits rom phase cell byte unseen =
-    picture-same (written c cell byte) c digits rom phase refl
+    picture-same (storedIn c cell byte) c digits rom phase refl
     (λ line row digit hl hd. unseen-dots c rom phase cell byte line row digit (unseen line digit hl hd))
 
 -- ---- the dots
@@ -165,7 +171,7 @@ unfolding dotsAt cellDots
 dots-small c rom phase line row digit = five-small (c .registers .lights .display) _ _
 
 pub five-bits-only : FiveBitsOnly
-unfolding pictureOf Small table
+unfolding pictureOf lineOf Small values
 five-bits-only c digits rom phase =
     small-parts _ _ (λ line. small-parts _ _ (λ row. small-parts digits _ (λ d. small-one _ (dots-small c rom phase line row d))))
 

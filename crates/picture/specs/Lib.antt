@@ -1,5 +1,3 @@
-pub mod Digit
-pub mod Table
 pub mod Picture
 pub mod Answers
-pub mod Claims
+pub mod Theorems

@@ -2,26 +2,20 @@
 ghost use mathlib.Core.Path.{_≡_};
 ghost use Rattle.picture.specs.Answers.{numberOf, Pictured};
 
-mod column;
-mod digit;
-mod line;
-mod mark;
-mod screen;
-pub mod size;
+mod whole;
 
 use controller::Controller;
-
-// The blink phase.
-pub enum Phase {
-    Plain,
-    Dark,
-}
+use dots::IMAGE_SIZE;
+use dots::Phase;
+use size::byte_count;
+use size::has_digits;
+use whole::draw;
 
 pub enum Answer {
     Done,
-    Digits,
-    Rom,
-    Short,
+    BadDigits,
+    BadImage,
+    ShortBuffer,
     NotInRange,
 }
 
@@ -32,9 +26,9 @@ impl Answer {
     {
         match self {
             Answer::Done => 0,
-            Answer::Digits => 4,
-            Answer::Rom => 5,
-            Answer::Short => 6,
+            Answer::BadDigits => 4,
+            Answer::BadImage => 5,
+            Answer::ShortBuffer => 6,
             Answer::NotInRange => 16,
         }
     }
@@ -56,16 +50,16 @@ pub fn picture(
     }
     let mode = registers.mode;
     let lines = mode.lines;
-    if !size::has_digits(lines, digits) {
-        return Answer::Digits;
+    if !has_digits(lines, digits) {
+        return Answer::BadDigits;
     }
-    if rom.len() != 4096 {
-        return Answer::Rom;
+    if rom.len() != IMAGE_SIZE {
+        return Answer::BadImage;
     }
-    let bytes = size::byte_count(mode, digits);
+    let bytes = byte_count(mode, digits);
     if out.len() < bytes {
-        return Answer::Short;
+        return Answer::ShortBuffer;
     }
-    screen::draw(controller, digits, rom, phase, &mut out[..bytes]);
+    draw(controller, digits, rom, phase, &mut out[..bytes]);
     Answer::Done
 }

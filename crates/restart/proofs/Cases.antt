@@ -10,7 +10,7 @@ use Rattle.bus.specs.Data.{shiftAfter, writeData, readData, readStatus, readOf,
 use Rattle.bus.specs.Halves.{firstHalf, secondHalf, onFour, onBus}
 use Rattle.bus.specs.Transfer.{refusedBusy, stepOf, transferOf, waitOf}
 use Rattle.bus.specs.Events.{toldBy, run}
-use Rattle.picture.specs.Digit.{shownOn}
+use Rattle.dots.specs.Digit.{shownOn}
 use Rattle.restart.specs.Examples.{seen, seenAll, found, calm, examples, ExamplesHold}
 
 pub examples-hold : ExamplesHold

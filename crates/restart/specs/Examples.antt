@@ -10,7 +10,7 @@ use Rattle.bus.specs.declared.kind.Kind.the-variants.{InstructionWrite, DataWri
 use Rattle.bus.specs.declared.event.Event.{Event}
 use Rattle.bus.specs.declared.event.Event.the-variants.{Transfer, Wait}
 use Rattle.bus.specs.Events.{toldBy, reached}
-use Rattle.picture.specs.Digit.{shownOn}
+use Rattle.dots.specs.Digit.{shownOn}
 
 -- what a case looks at afterwards
 pub data Look : Type 0 where

@@ -11,7 +11,7 @@ use Rattle.controller.specs.Part.{inRange, freshWith}
 use Rattle.bus.specs.Transfer.{Told}
 use Rattle.bus.specs.declared.event.Event.{Event}
 use Rattle.bus.specs.Events.{run, reached, saidBy}
-use Rattle.picture.specs.declared.Phase.{Phase}
+use Rattle.dots.specs.declared.phase.Phase.{Phase}
 use Rattle.picture.specs.Answers.{answerFor, bufferFor}
 use Rattle.restart.specs.Writes.{halves, Write, Given, after, AtEach, patient, FourLines}
 

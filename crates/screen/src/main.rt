@@ -1,15 +1,15 @@
 // The screen program: one record from standard input, the picture that it leaves to standard output.
-use arguments::Asked;
+use dots::Phase;
+use drawing::Form;
 use libc::STDIN_FILENO;
 use libc::STDOUT_FILENO;
-use picture::Phase;
-use sheet::Form;
 use view::Answer;
+use view::Asked;
 
 // A byte more than the longest record and than a ROM image, so that a longer one is seen.
 const INPUT: usize = record::MOST_BYTES + 1;
 
-const ROM: usize = 4097;
+const IMAGE: usize = dots::IMAGE_SIZE + 1;
 
 fn asked() -> Asked {
     let mut digits = io::buffer();
@@ -22,7 +22,7 @@ fn asked() -> Asked {
     let digits_size = os::arg(1, &mut digits);
     let phase_size = os::arg(3, &mut phase);
     let form_size = os::arg(4, &mut form);
-    arguments::asked_by(
+    view::asked_by(
         words - 1,
         &digits[..digits_size],
         &phase[..phase_size],
@@ -33,18 +33,18 @@ fn asked() -> Asked {
 fn show(digits: u8, phase: Phase, form: Form, rom: &[u8]) {
     let mut input = [0u8; INPUT];
     let got = io::read_full(STDIN_FILENO, &mut input);
-    let mut text = [0u8; sheet::MOST_BYTES];
+    let mut text = [0u8; drawing::MOST_BYTES];
     match view::view(digits, phase, form, rom, &input[..got], &mut text) {
         Answer::Done(size) => {
             io::write_all(STDOUT_FILENO, &text[..size]);
         }
-        Answer::Short => {}
+        Answer::ShortBuffer => {}
     }
 }
 
 // A read that fails counts as an end, so one more tells the two apart.
 fn show_with(digits: u8, phase: Phase, form: Form, file: i32, path: &[u8]) {
-    let mut rom = [0u8; ROM];
+    let mut rom = [0u8; IMAGE];
     let got = io::read_full(file, &mut rom);
     let mut more = [0u8; 1];
     if libc::read(file, &mut more) < 0 {

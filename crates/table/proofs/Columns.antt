@@ -12,12 +12,12 @@ use Rattle.controller.specs.Answers.{numberOf}
 use Rattle.record.specs.declared.events.Event.{Event}
 use Rattle.record.specs.declared.events.Event.the-variants.{InstructionWrite, DataWrite, StatusRead, DataRead, Wait}
 use Rattle.record.specs.Event.{rawOf}
-use Rattle.text.specs.Put.{Puts}
+use Rattle.lent.specs.Put.{Puts}
 use Rattle.text.specs.Text.{decimalOf, textOf}
 use Rattle.table.specs.Table.{spaced, lineOf}
 use Rattle.table.specs.Tabled.{Narrow}
 use Rattle.text.proofs.Decimal.{digits-below}
-use Rattle.text.proofs.Placed.{Awaits, puts-then, awaits-none, awaits-room, awaits-more}
+use Rattle.lent.proofs.Placed.{Awaits, puts-then, awaits-none, awaits-room, awaits-more}
 
 -- ---- numbers with a space behind each
 

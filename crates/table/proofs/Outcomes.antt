@@ -8,9 +8,8 @@ use lib.ListN.{length}
 use Rattle.record.specs.Buffer.{over, unlessRefused}
 use Rattle.record.specs.Record.{checkOf}
 use Rattle.table.specs.declared.Tabled.the-variants.{Done, ShortBuffer}
-use Rattle.text.specs.Text.{textOf}
-use Rattle.text.specs.Put.{putAt, Puts}
-use Rattle.text.specs.Text.{refusedOf}
+use Rattle.text.specs.Text.{textOf, refusedOf}
+use Rattle.lent.specs.Put.{putAt, Puts}
 use Rattle.table.specs.Table.{tableOf, printedOf}
 use Rattle.table.specs.Tabled.{answerOf, Tabling}
 

@@ -12,9 +12,9 @@ use Rattle.record.specs.Event.{rawOf}
 use Rattle.record.specs.Record.{runIn, eventsOf, checkOf}
 use Rattle.record.proofs.InTurn.{sound-events}
 use Rattle.run.specs.Run.{eventOn}
-use Rattle.text.specs.Put.{Puts}
+use Rattle.lent.specs.Put.{Puts}
 use Rattle.table.specs.Table.{lineOf, linesOf}
-use Rattle.text.proofs.Placed.{Awaits, awaits-all, awaits-none, awaits-more}
+use Rattle.lent.proofs.Placed.{Awaits, awaits-all, awaits-none, awaits-more}
 
 pub lines-start : (bytes : List ℕ) (c : Controller) (place : ℕ) (out : List ℕ) → checkOf bytes ≡ 0 → c ≡ switchedOn
     → Awaits (linesOf 1 (runIn (drop 3 bytes)) c) place out (linesOf 1 (eventsOf bytes) switchedOn) place out

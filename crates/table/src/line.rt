@@ -6,7 +6,7 @@ ghost use Prim.Native.Nat.{_+_, _≤_};
 ghost use lib.ListN.{length};
 ghost use Rattle.controller.specs.Answers.{numberOf, valueOf};
 ghost use Rattle.record.specs.Event.{rawOf};
-ghost use Rattle.text.specs.Put.{Puts};
+ghost use Rattle.lent.specs.Put.{Puts};
 ghost use Rattle.table.specs.Table.{spaced, lineOf};
 ghost use Rattle.table.specs.Tabled.{Narrow};
 

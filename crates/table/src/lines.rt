@@ -9,7 +9,7 @@ ghost use Prim.Native.Nat.{_+_, _*_, _≤_};
 ghost use lib.ListN.{length};
 ghost use Rattle.controller.specs.Part.{switchedOn};
 ghost use Rattle.record.specs.Record.{eventsOf, checkOf};
-ghost use Rattle.text.specs.Put.{Puts};
+ghost use Rattle.lent.specs.Put.{Puts};
 ghost use Rattle.table.specs.Table.{linesOf};
 
 // Of a sound record, given to a part just switched on, whose memories stay in place.

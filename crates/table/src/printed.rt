@@ -6,7 +6,7 @@ ghost use mathlib.Core.Path.{_≡_};
 ghost use Prim.Native.Nat.{_≤_};
 ghost use lib.ListN.{length};
 ghost use Rattle.record.specs.Record.{checkOf};
-ghost use Rattle.text.specs.Put.{Puts};
+ghost use Rattle.lent.specs.Put.{Puts};
 ghost use Rattle.table.specs.Table.{tableOf, printedOf};
 
 fn put_table(bytes: &[u8], out: &mut [u8]) -> usize

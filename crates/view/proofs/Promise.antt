@@ -1,51 +1,30 @@
--- Laws of the promise: what each answer leaves, and the claims about it.
+-- Laws of the promise: what each answer leaves.
 use Prim.Native.Nat.{ℕ, _<_, _≤_}
-use mathlib.Core.Path.{_≡_, refl, ap₂, sym, _∙_}
-use mathlib.Core.Bool.{cond}
+use mathlib.Core.Path.{_≡_, sym}
 use mathlib.Core.List.{List}
-use native.Mathlib.Nat.{zero-add}
-use native.Mathlib.Omega.{arith}
+use lib.ListN.{length}
 use borrow.Author.Tests.{lt-ltb, le-ltb}
-use lib.Dec.{eqb}
-use lib.ListN.{length, drop, length-append}
-use lib.Seq.{take-append-seam}
-use Rattle.text.specs.Put.{putAt, Puts}
-use Rattle.picture.specs.declared.Phase.{Phase}
-use Rattle.picture.specs.Table.{over}
-use Rattle.sheet.specs.declared.Form.{Form}
-use Rattle.view.specs.declared.Answer.{Answer}
-use Rattle.view.specs.declared.Answer.the-variants.{Done, Short}
+use Rattle.condition.specs.First.{firstOf}
+use Rattle.lent.specs.Put.{Puts}
+use Rattle.lent.proofs.Left.{refused-keeps}
+use Rattle.lent.proofs.Front.{front-written}
+use Rattle.dots.specs.declared.phase.Phase.{Phase}
+use Rattle.drawing.specs.declared.form.Form.{Form}
+use Rattle.drawing.specs.Drawing.{mostDrawn}
+use Rattle.view.specs.declared.Answer.the-variants.{Done, ShortBuffer}
 use Rattle.view.specs.View.{viewOf}
-use Rattle.view.specs.Answers.{numberOf, countOf, answerFor, writtenFor, Viewed}
-use Rattle.view.specs.Claims.{OneOutcome, AtTheFront}
+use Rattle.view.specs.Answers.{refusals, answerFor, valueFor, Viewed}
 
 module _ (digits : ℕ) (phase : Phase) (form : Form) (rom bytes out : List ℕ) where
-  pub refused : length out < 5280 → Viewed digits phase form rom bytes out Short out
-  unfolding answerFor writtenFor over
-  refused h = let short = lt-ltb (length out) 5280 h in record { number = simp short; count = simp short; buffer = simp short }
+  pub refused : length out < mostDrawn → Viewed digits phase form rom bytes out ShortBuffer out
+  unfolding refusals answerFor valueFor firstOf
+  refused h =
+      let short : answerFor out ≡ 6 = rw (lt-ltb (length out) mostDrawn h) in
+      record { number = sym short; value = rw short; buffer = refused-keeps _ _ _ (rw short) }
 
-  pub viewed : (n : ℕ) (left : List ℕ) → 5280 ≤ length out → Puts (viewOf digits phase form rom bytes) 0 out n left → Viewed digits phase form rom bytes out (Done n) left
-  unfolding answerFor writtenFor over putAt
+  pub viewed : (n : ℕ) (left : List ℕ) → mostDrawn ≤ length out → Puts (viewOf digits phase form rom bytes) 0 out n left → Viewed digits phase form rom bytes out (Done n) left
+  unfolding refusals answerFor valueFor firstOf
   viewed n left h p =
-      let long = le-ltb (length out) 5280 h in
-      record { number = simp long; count = simp long (p .next ∙ zero-add _); buffer = simp long (p .buffer ∙ rw zero-add) }
-
--- ---- one outcome
-answerOf : (number count : ℕ) → Answer
-answerOf number count = cond (eqb number 0) (Done count) Short
-
-answer-of : (r : Answer) → answerOf (numberOf r) (countOf r) ≡ r
-unfolding answerOf
-answer-of (Done n) = refl
-answer-of Short = refl
-
-pub one-outcome : OneOutcome
-one-outcome digits phase form rom bytes out answer other left leftOther p q =
-    (sym (answer-of answer) ∙ ap₂ answerOf (p .number ∙ sym (q .number)) (p .count ∙ sym (q .count)) ∙ answer-of other, p .buffer ∙ sym (q .buffer))
-
--- ---- at the front
-pub at-the-front : AtTheFront
-unfolding over
-at-the-front digits phase form rom bytes out answer left p =
-    let written = writtenFor digits phase form rom bytes out in
-    (rw (p .buffer, p .count) (simp length-append (omega arith)), rw (p .buffer, p .count) (take-append-seam written (drop (length written) out)))
+      let done : answerFor out ≡ 0 = rw (le-ltb (length out) mostDrawn h) in
+      let written = front-written (answerFor out) _ out left done n p in
+      record { number = sym done; value = rw done (written .0); buffer = written .1 }

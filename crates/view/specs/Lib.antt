@@ -1,3 +1,4 @@
+pub mod Words
 pub mod View
 pub mod Answers
-pub mod Claims
+pub mod Theorems

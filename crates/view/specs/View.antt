@@ -1,26 +1,27 @@
--- What the screen program prints for a count of digits, a phase, a form, a ROM file and a record.
+-- What `screen` prints for a count of digits, a phase, a form, a ROM file and a record.
 use Prim.Native.Nat.{ℕ}
 use mathlib.Core.Bool.{cond}
 use mathlib.Core.List.{List}
 use lib.Dec.{ltb, eqb}
 use lib.ListN.{length}
-use Rattle.text.specs.Text.{textOf, refusedOf}
 use Rattle.controller.specs.declared.Controller.{Controller}
 use Rattle.controller.specs.Part.{switchedOn}
+use Rattle.size.specs.Size.{hasDigits}
+use Rattle.dots.specs.declared.phase.Phase.{Phase}
+use Rattle.dots.specs.Dots.{imageSize}
+use Rattle.picture.specs.Picture.{pictureOf}
 use Rattle.record.specs.Record.{eventsOf, checkOf}
 use Rattle.run.specs.Run.{ranOf}
-use Rattle.picture.specs.declared.Phase.{Phase}
-use Rattle.picture.specs.Picture.{pictureOf}
-use Rattle.picture.specs.Answers.{hasDigits}
-use Rattle.sheet.specs.declared.Form.{Form}
-use Rattle.sheet.specs.Sheet.{sheetOf}
+use Rattle.text.specs.Text.{textOf, refusedOf}
+use Rattle.drawing.specs.declared.form.Form.{Form}
+use Rattle.drawing.specs.Drawing.{drawingOf}
 
 -- the picture of a part: 4 for the count of digits, then 5 for the ROM file
 unfoldable pub shownOf : Controller → (digits : ℕ) → Phase → Form → (rom : List ℕ) → List ℕ
 shownOf c digits phase form rom =
     cond (hasDigits (c .registers .mode .lines) digits)
-    (cond (eqb (length rom) 4096)
-    (sheetOf form (c .registers .mode) digits (pictureOf c digits rom phase))
+    (cond (eqb (length rom) imageSize)
+    (drawingOf form (c .registers .mode) digits (pictureOf c digits rom phase))
     (refusedOf 5))
     (refusedOf 4)
 

@@ -1,15 +1,18 @@
-use borrow.Author.Needs.{needs}
+-- What is printed is at the front of the text, by the view's theorem.
 use Prim.Native.Nat.{_≤_}
 use mathlib.Core.Path.{sym}
 use lib.ListN.{length}
 use lib.Seq.{length-take-le}
-use Rattle.view.proofs.Promise.{at-the-front}
+use borrow.Author.Needs.{needs}
+use Rattle.view.proofs.Theorems.{at-the-front}
 use Rattle.screen.proofs.show.Statement.{statement}
 use Rattle.screen.proofs.show.Tie as tie
 
 -- what is printed is there
 there : (c : tie.After-known-told) → c .before .size .given .0 .0 ≤ length (c .before .before .before .before .view .last .1 .1 .1 .1 .1 .0)
-there c = rw (c .before .size .given .1) at (at-the-front _ _ _ _ _ _ _ _ (c .before .before .before .before .view .ensures) .0)
+there c =
+    let at-view = c .before .before .before .before in
+    at-the-front _ _ _ _ _ _ _ _ (rw (c .before .size .given .1) at (at-view .view .ensures)) .0
 
 slice-aggregate-read-full : tie.Need-slice-aggregate-read-full
 slice-aggregate-read-full c = search needs

@@ -1,3 +1,4 @@
+-- A buffer with room takes what is put; any other is refused.
 use borrow.Author.Needs.{needs}
 use Rattle.view.proofs.Promise.{refused, viewed}
 use Rattle.view.proofs.view.Statement.{statement}

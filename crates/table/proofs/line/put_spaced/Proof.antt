@@ -4,7 +4,7 @@ use mathlib.Core.Path.{_≡_, refl}
 use native.Mathlib.Omega.{arith}
 use lib.ListN.{length, drop}
 use Rattle.table.specs.Table.{spaced}
-use Rattle.text.proofs.Placed.{Awaits, awaits-all}
+use Rattle.lent.proofs.Placed.{Awaits, awaits-all}
 use Rattle.table.proofs.Columns.{spaced-room, spaced-turn, spaced-end}
 use Rattle.table.proofs.line.put_spaced.Statement.{statement}
 use Rattle.table.proofs.line.put_spaced.Tie as tie

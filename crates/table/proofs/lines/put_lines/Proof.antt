@@ -15,7 +15,7 @@ use Rattle.bus.proofs.Range.{reached-in-range}
 use Rattle.record.specs.Record.{runIn, eventsOf}
 use Rattle.record.proofs.InTurn.{found-first, none-left, none-behind}
 use Rattle.table.specs.Table.{linesOf}
-use Rattle.text.proofs.Placed.{Awaits}
+use Rattle.lent.proofs.Placed.{Awaits}
 use Rattle.table.proofs.Turns.{lines-start, lines-turn, lines-end}
 use Rattle.table.proofs.lines.put_lines.Statement.{statement}
 use Rattle.table.proofs.lines.put_lines.Tie as tie

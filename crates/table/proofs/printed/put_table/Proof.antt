@@ -2,7 +2,7 @@
 use borrow.Author.Needs.{needs}
 use native.Mathlib.Omega.{arith}
 use Rattle.table.specs.Table.{tableOf}
-use Rattle.text.proofs.Placed.{puts-then}
+use Rattle.lent.proofs.Placed.{puts-then}
 use Rattle.table.proofs.printed.put_table.Statement.{statement}
 use Rattle.table.proofs.printed.put_table.Tie as tie
 

@@ -1,0 +1,3 @@
+pub mod Digit
+pub mod Dots
+pub mod Contracts

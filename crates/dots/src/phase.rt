@@ -1,0 +1,5 @@
+// The blink phase.
+pub enum Phase {
+    Plain,
+    Dark,
+}

@@ -1,0 +1,5 @@
+pub mod Rows
+pub mod Lengths
+pub mod Promise
+pub mod Settled
+pub mod Theorems

@@ -1,0 +1,5 @@
+// How a drawing is written.
+pub enum Form {
+    Text,
+    Image,
+}

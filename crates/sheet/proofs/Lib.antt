@@ -1,5 +1,0 @@
-pub mod Placed
-pub mod Rows
-pub mod Sheets
-pub mod Promise
-pub mod Theorems

@@ -1,0 +1,82 @@
+-- The loop reads a digit a turn; a character that is none, or a count above 255, ends it.
+use Prim.Native.Nat.{_-_}
+use mathlib.Core.Path.{refl}
+use native.Mathlib.Nat.{le-antisymm}
+use lib.ListN.{length}
+use borrow.Author.Needs.{needs}
+use Rattle.view.proofs.Counts.{Counted, empty-word, below-digits, above-digits, grown-large, counted-next, counted-all}
+use Rattle.view.proofs.count.count_in.Statement.{statement}
+use Rattle.view.proofs.count.count_in.Tie as tie
+
+abbrev Inv-loop : tie.InvT-loop
+Inv-loop word count₀ i₀ count i = Counted word count i
+
+abbrev μ-loop : tie.MeasureT-loop
+μ-loop word count₀ i₀ count i = length word - i
+
+returns : tie.Need-returns Inv-loop μ-loop
+returns c = empty-word _ (c .if1 .taken)
+
+loop-holds : tie.Need-loop-holds Inv-loop μ-loop
+loop-holds c = (search needs, search needs, refl, refl)
+
+shared-slice-read-character : tie.Need-shared-slice-read-character Inv-loop μ-loop
+shared-slice-read-character c = search needs
+
+returns-2 : tie.Need-returns-2 Inv-loop μ-loop
+returns-2 c = below-digits _ _ _ (c .before .before .before .loop .inv) (search needs) (c .if2 .taken)
+
+returns-3 : tie.Need-returns-3 Inv-loop μ-loop
+returns-3 c = above-digits _ _ _ (c .before .before .before .before .loop .inv) (search needs) (c .if3 .taken)
+
+mul-count : tie.Need-mul-count Inv-loop μ-loop
+mul-count c = search needs
+
+cast-count : tie.Need-cast-count Inv-loop μ-loop
+cast-count c = search needs
+
+add-count : tie.Need-add-count Inv-loop μ-loop
+add-count c = search needs
+
+returns-4 : tie.Need-returns-4 Inv-loop μ-loop
+returns-4 c =
+    let at-digit = c .before in
+    grown-large _ _ _ (at-digit .before .before .before .before .loop .inv) (search needs) (c .if4 .taken)
+
+add-i : tie.Need-add-i Inv-loop μ-loop
+add-i c = search needs
+
+loop-less : tie.Need-loop-less Inv-loop μ-loop
+loop-less c = search needs
+
+loop-again : tie.Need-loop-again Inv-loop μ-loop
+loop-again c =
+    let at-digit = c .before in
+    counted-next _ _ _ (at-digit .before .before .before .before .loop .inv) (search needs) (at-digit .before .if2 .left) (at-digit .if3 .left) (c .if4 .left)
+
+cast-t13 : tie.Need-cast-t13 Inv-loop μ-loop
+cast-t13 c = search needs
+
+returns-5 : tie.Need-returns-5 Inv-loop μ-loop
+returns-5 c = counted-all _ _ _ (c .before .loop .inv) (c .before .before .if1 .left) (le-antisymm (c .before .loop .inv .0) (c .loop-test .left))
+
+pub count-in-spec : {M : Type 1} → statement M
+count-in-spec =
+    tie.close
+    (tie.spec
+    Inv-loop
+    μ-loop
+    returns
+    loop-holds
+    shared-slice-read-character
+    returns-2
+    returns-3
+    mul-count
+    cast-count
+    add-count
+    returns-4
+    add-i
+    loop-less
+    loop-again
+    cast-t13
+    returns-5)
