@@ -1,28 +1,66 @@
 -- From the writes as they are given, with their waits and the test of the range, to a chain of steps of the registers.
-use Prim.Native.Nat.{ℕ, suc, _+_, _-_, _*_, _<_}
-use mathlib.Core.Path.{_≡_, ap, _∙_, subst, subst⁻¹}
-use mathlib.Core.List.{List, [], _∷_}
+use Prim.Native.Nat.{ℕ, zero, suc, _+_, _-_, _*_, _/_, _≤_, _<_, _%_}
+use mathlib.Core.Path.{_≡_, _∙_, ap, refl, subst, subst⁻¹, sym}
+use mathlib.Core.Logic.{_⊎_, _≢_, _↔_, ⊎-elim, inl, inr}
+use mathlib.Core.Bool.{Bool, true, false, cond, not, _&&_, _||_, Bool·beq}
+use mathlib.Core.List.{List, [], _∷_, _++_}
 use native.Mathlib.Omega.{arith}
-use lib.Dec.{T}
-use Rattle.condition.proofs.Tests.{holds, is-true}
+use lib.Dec.{T, ltb, leb, eqb, leb→le, le→leb, eqb→eq, eqb-refl, T-not, lit≤, ltb→lt, lt→ltb}
+use lib.ListN.{getD, set, replicate, drop, take, length}
+use lib.Seq.{getD-set-other}
+use Rattle.condition.specs.First.{Rule, _when_, firstOf, Exactly}
+use Rattle.condition.proofs.First.{first-given-exactly}
+use Rattle.condition.proofs.Tests.{is-true, holds, not-not, and-left, and-right, and-both, split, neqb→ne, met}
+use Rattle.counters.specs.declared.LineMode.{LineMode}
+use Rattle.counters.specs.declared.LineMode.the-variants.{One, Two}
+use Rattle.counters.specs.declared.counter.Counter.{Counter}
+use Rattle.counters.specs.declared.counter.Counter.the-variants.{Display, Character}
+use Rattle.counters.specs.declared.shift.Shift.{Shift}
+use Rattle.counters.specs.Address.{display, hasDisplay, hasCharacter, cellOf}
+use Rattle.counters.specs.Counter.{hasCounter, stepOf}
+use Rattle.counters.specs.Shift.{shift, hasShift}
+use Rattle.counters.proofs.Laws.{home-exists, no-shift-exists, step-exists, move-exists}
+use Rattle.event.specs.declared.Event.{Event}
+use Rattle.event.specs.declared.Event.the-variants.{Transfer, Wait}
+use Rattle.event.specs.declared.Kind.{Kind}
+use Rattle.event.specs.declared.Kind.the-variants.{InstructionWrite, DataWrite, StatusRead, DataRead}
+use Rattle.event.specs.Kind.{isRead, isStatus, alike}
+use Rattle.halves.specs.declared.Half.{Half}
+use Rattle.halves.specs.declared.LineCount.{LineCount}
+use Rattle.halves.specs.declared.LineCount.the-variants.{Eight, Four}
+use Rattle.halves.specs.Halves.{upper, lower, halfFits, heldBy, upperOf, isFirst, disagrees, completed, answered}
+use Rattle.halves.proofs.Waiting.{first-fits}
 use Rattle.controller.specs.declared.Controller.{Controller}
-use Rattle.controller.specs.declared.change.Change.{Change}
+use Rattle.controller.specs.declared.answer.Answer.{Answer}
+use Rattle.controller.specs.declared.answer.Answer.the-variants.{Done, FirstHalf, Busy, HalvesDisagree, NoSuchAddress, NotInRange}
+use Rattle.controller.specs.declared.effect.Effect.{Effect}
 use Rattle.controller.specs.declared.registers.Registers.{Registers}
-use Rattle.controller.specs.Part.{inRange}
-use Rattle.controller.specs.Instructions.{Result}
+use Rattle.controller.specs.Answers.{Said, saying, refused, saidOf}
+use Rattle.controller.specs.Memory.{Change, byteAt, storeAt, displayAfter, characterAfter}
+use Rattle.controller.specs.Part.{placed, awaiting, counterStepped, with, waited, longest, inRange, freshRegisters, freshWith, switchedOn}
+use Rattle.controller.specs.Result.{Result, done, forgotten, leaving}
+use Rattle.controller.specs.Told.{Told, toldWith, addressed, carried, unchanged}
 use Rattle.controller.proofs.Ranged.{InRange, facts, test}
-use Rattle.bus.specs.declared.kind.Kind.{Kind}
-use Rattle.bus.specs.Memory.{displayAfter, characterAfter}
-use Rattle.bus.specs.Transfer.{Told, stepOf, addressed, carried, transferOf}
-use Rattle.bus.specs.Events.{waits}
-use Rattle.bus.proofs.Free.{freed, withBusy, waits-only-busy, transfer-steps}
-use Rattle.bus.proofs.Range.{step-in-range}
-use Rattle.restart.specs.Writes.{Write, written, Given, after, AtEach}
-use Rattle.restart.specs.Statement.{Holds}
+use Rattle.instructions.specs.declared.instruction.Instruction.{Instruction}
+use Rattle.instructions.specs.declared.instruction.Instruction.the-variants.{Nothing, Clear, Home, EntryMode, OnOff, Move, FunctionSet, SetCharacter, SetDisplay}
+use Rattle.instructions.specs.Instructions.{bit, lineCount, lineMode, decode, moved, unlessChanged, rearranged, rowOf, obey}
+use Rattle.instructions.proofs.Decoded.{decoded-by-range}
+use Rattle.instructions.proofs.Rows.{leaves-no-half, answers-done-or-three, only-clear-changes, function-set-is-done, function-set-sets-lines, function-set-keeps-memories}
+use Rattle.step.specs.Data.{shiftAfter, writeData, readData, readStatus, readOf, statusOf, act}
+use Rattle.step.specs.Step.{firstHalf, secondHalf, onFour, onBus, refusedBusy, resultFor, stepped}
+use Rattle.step.proofs.Joined.{joined, bus-joined}
+use Rattle.bus.specs.Transfer.{told, transferOf, waitedTold, waitOf}
+use Rattle.bus.specs.Events.{toldBy, afterEvents, reached, waits, sum}
+use Rattle.controller.specs.declared.registers.Mode.{Mode}
+use Rattle.bus.proofs.Free.{freed, withBusy, waits-only-busy, transfer-steps, on-eight, first-waits, second-completes, other-disagrees}
+use Rattle.bus.proofs.Range.{step-in-range, range-kept, fresh-in-range, reached-in-range}
+use Rattle.bus.proofs.Busy.{waits-kept, waits-lower}
+use Rattle.restart.specs.Writes.{halves, Write, toldOf, Given, after, AtEach, patiently, patient, FourLines, lowerFrom, lowerLines, restartOf}
+use Rattle.restart.specs.Compared.{Holds, answers, freshLike}
 
 -- the step that a write with the upper lines h and the lower lines l comes to, the busy time waited out
 abbrev pub stepWith : ℕ → ℕ → ℕ → Registers → Result
-stepWith h l b r = stepOf (freed r) Kind.InstructionWrite (h * 16 + l) b
+stepWith h l b r = resultFor (freed r) InstructionWrite (h * 16 + l) b
 
 freed-in-range : (r : Registers) → T (inRange r) → T (inRange (freed r))
 freed-in-range r t =
@@ -34,21 +72,21 @@ unfoldable pub Leads : (A : ℕ → ℕ → Type 0) (Q : Registers → Type 0) �
 Leads A Q i [] r = Q r
 Leads A Q i (h ∷ hs) r =
     (l b : ℕ) → l < 16
-    → (stepWith h l b r .change ≡ Change.Nothing) × A i (stepWith h l b r .number) × Leads A Q (suc i) hs (stepWith h l b r .registers)
+    → (stepWith h l b r .change ≡ Change.Nothing) × A i (stepWith h l b r .said .number) × Leads A Q (suc i) hs (stepWith h l b r .registers)
 
 -- a write that is given is such a step
-written-steps : (h : ℕ) (w : Write) (c : Controller) → T (inRange (c .registers)) → waits (w .before) c .registers .busy ≡ 0
-    → written h w c ≡ carried c (stepWith h (w .lower) (addressed c) (c .registers))
-unfolding written
-written-steps h w c t e =
-    ap (λ (x : Controller). transferOf x Kind.InstructionWrite (h * 16 + w .lower))
+toldOf-steps : (h : ℕ) (w : Write) (c : Controller) → T (inRange (c .registers)) → waits (w .before) c .registers .busy ≡ 0
+    → toldOf h w c ≡ carried c (stepWith h (w .lower) (addressed c) (c .registers))
+unfolding toldOf
+toldOf-steps h w c t e =
+    ap (λ (x : Controller). transferOf x InstructionWrite (h * 16 + w .lower))
     (waits-only-busy (w .before) c t ∙ ap (withBusy c) e)
-    ∙ transfer-steps (withBusy c 0) Kind.InstructionWrite (h * 16 + w .lower) (freed-in-range (c .registers) t)
+    ∙ transfer-steps (withBusy c 0) InstructionWrite (h * 16 + w .lower) (freed-in-range (c .registers) t)
 
 -- what is known after a chain of writes that were given to c
 pub record Came (A : ℕ → ℕ → Type 0) (Q : Registers → Type 0) (c₀ : Controller) (i : ℕ) (hs : List ℕ) (ws : List Write) (c : Controller) : Type 0 where
   pub memories : AtEach (λ j t. Holds c₀ t) i hs ws c
-  pub answers : AtEach (λ j t. A j (t .number)) i hs ws c
+  pub answers : AtEach (λ j t. A j (t .said .number)) i hs ws c
   pub display : after hs ws c .display ≡ c₀ .display
   pub character : after hs ws c .character ≡ c₀ .character
   pub registers : Q (after hs ws c .registers)
@@ -63,20 +101,20 @@ module _ (A : ℕ → ℕ → Type 0) (Q : Registers → Type 0) (c₀ : Control
   leads-to i (h ∷ hs) (w ∷ ws) c t d m p g =
       let s : Result = stepWith h (w .lower) (addressed c) (c .registers) in
       let q = p (w .lower) (addressed c) (g .0) in
-      let e : written h w c ≡ carried c s = written-steps h w c t (g .1) in
-      let d′ : written h w c .controller .display ≡ c₀ .display =
+      let e : toldOf h w c ≡ carried c s = toldOf-steps h w c t (g .1) in
+      let d′ : toldOf h w c .controller .display ≡ c₀ .display =
       ap (λ (x : Told). x .controller .display) e ∙ ap (λ (x : Change). displayAfter x (c .display)) (q .0) ∙ d in
-      let m′ : written h w c .controller .character ≡ c₀ .character =
+      let m′ : toldOf h w c .controller .character ≡ c₀ .character =
       ap (λ (x : Told). x .controller .character) e ∙ ap (λ (x : Change). characterAfter x (c .character)) (q .0) ∙ m in
-      let r′ : written h w c .controller .registers ≡ s .registers = ap (λ (x : Told). x .controller .registers) e in
+      let r′ : toldOf h w c .controller .registers ≡ s .registers = ap (λ (x : Told). x .controller .registers) e in
       let t′ : T (inRange (s .registers)) =
-      holds _ (step-in-range (freed (c .registers)) Kind.InstructionWrite (h * 16 + w .lower) (addressed c) (is-true _ (freed-in-range (c .registers) t))) in
-      let rest : Came A Q c₀ (suc i) hs ws (written h w c .controller) =
-      leads-to (suc i) hs ws (written h w c .controller) (subst⁻¹ (λ (x : Registers). T (inRange x)) r′ t′) d′ m′
+      holds _ (step-in-range (freed (c .registers)) InstructionWrite (h * 16 + w .lower) (addressed c) (is-true _ (freed-in-range (c .registers) t))) in
+      let rest : Came A Q c₀ (suc i) hs ws (toldOf h w c .controller) =
+      leads-to (suc i) hs ws (toldOf h w c .controller) (subst⁻¹ (λ (x : Registers). T (inRange x)) r′ t′) d′ m′
       (subst⁻¹ (Leads A Q (suc i) hs) r′ (q .2)) (g .2) in
       record {
         memories = (record { display = d′; character = m′ }, rest .memories);
-        answers = (subst⁻¹ (A i) (ap (λ (x : Told). x .number) e) (q .1), rest .answers);
+        answers = (subst⁻¹ (A i) (ap (λ (x : Told). x .said .number) e) (q .1), rest .answers);
         display = rest .display;
         character = rest .character;
         registers = rest .registers;

@@ -1,4 +1,4 @@
 pub mod Leads
 pub mod Restarting
 pub mod Third
-pub mod Cases
+pub mod Polling

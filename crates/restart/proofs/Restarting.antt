@@ -1,33 +1,63 @@
 -- The twelve writes lead from all registers in range to the same registers, by laws of the transfer and of the instructions.
-use Prim.Native.Nat.{ℕ, zero, suc, _+_, _*_, _<_, _≤_, _/_, _%_}
-use mathlib.Core.Path.{_≡_, refl, ap, _∙_, subst, subst⁻¹}
-use mathlib.Core.Bool.{Bool, true, false, not, _||_}
-use mathlib.Core.List.{List, [], _∷_}
+use Prim.Native.Nat.{ℕ, zero, suc, _+_, _-_, _*_, _/_, _≤_, _<_, _%_}
+use mathlib.Core.Path.{_≡_, _∙_, ap, refl, subst, subst⁻¹, sym}
+use mathlib.Core.Logic.{_⊎_, _≢_, _↔_, ⊎-elim, inl, inr}
+use mathlib.Core.Bool.{Bool, true, false, cond, not, _&&_, _||_, Bool·beq}
+use mathlib.Core.List.{List, [], _∷_, _++_}
 use native.Mathlib.Omega.{arith}
-use lib.ListN.{drop}
-use lib.Dec.{T, ltb, eqb, ltb→lt, eqb→eq, not-T}
-use Rattle.counters.specs.declared.LineMode.the-variants.{Two}
-use Rattle.counters.specs.declared.counter.Counter.the-variants.{Display}
-use Rattle.counters.specs.Address.{display}
-use Rattle.counters.specs.Shift.{shift}
-use Rattle.controller.specs.declared.change.Change.{Change}
-use Rattle.controller.specs.declared.half.Half.{Half}
-use Rattle.controller.specs.declared.half.LineCount.{LineCount}
-use Rattle.controller.specs.declared.half.LineCount.the-variants.{Eight, Four}
-use Rattle.controller.specs.declared.instruction.Instruction.{Instruction}
-use Rattle.controller.specs.declared.instruction.Instruction.the-variants.{FunctionSet}
-use Rattle.controller.specs.declared.registers.Mode.{Mode}
+use lib.Dec.{T, not-T, ltb, leb, eqb, leb→le, le→leb, eqb→eq, eqb-refl, T-not, lit≤, ltb→lt, lt→ltb}
+use lib.ListN.{getD, set, replicate, drop, take, length}
+use lib.Seq.{getD-set-other}
+use Rattle.condition.specs.First.{Rule, _when_, firstOf, Exactly}
+use Rattle.condition.proofs.First.{first-given-exactly}
+use Rattle.condition.proofs.Tests.{is-true, holds, not-not, and-left, and-right, and-both, split, neqb→ne, met}
+use Rattle.counters.specs.declared.LineMode.{LineMode}
+use Rattle.counters.specs.declared.LineMode.the-variants.{One, Two}
+use Rattle.counters.specs.declared.counter.Counter.{Counter}
+use Rattle.counters.specs.declared.counter.Counter.the-variants.{Display, Character}
+use Rattle.counters.specs.declared.shift.Shift.{Shift}
+use Rattle.counters.specs.Address.{display, hasDisplay, hasCharacter, cellOf}
+use Rattle.counters.specs.Counter.{hasCounter, stepOf}
+use Rattle.counters.specs.Shift.{shift, hasShift}
+use Rattle.counters.proofs.Laws.{home-exists, no-shift-exists, step-exists, move-exists}
+use Rattle.event.specs.declared.Event.{Event}
+use Rattle.event.specs.declared.Event.the-variants.{Transfer, Wait}
+use Rattle.event.specs.declared.Kind.{Kind}
+use Rattle.event.specs.declared.Kind.the-variants.{InstructionWrite, DataWrite, StatusRead, DataRead}
+use Rattle.event.specs.Kind.{isRead, isStatus, alike}
+use Rattle.halves.specs.declared.Half.{Half}
+use Rattle.halves.specs.declared.LineCount.{LineCount}
+use Rattle.halves.specs.declared.LineCount.the-variants.{Eight, Four}
+use Rattle.halves.specs.Halves.{upper, lower, isFour, halfFits, heldBy, upperOf, isFirst, disagrees, completed, answered}
+use Rattle.halves.proofs.Waiting.{first-fits}
+use Rattle.controller.specs.declared.Controller.{Controller}
+use Rattle.controller.specs.declared.answer.Answer.{Answer}
+use Rattle.controller.specs.declared.answer.Answer.the-variants.{Done, FirstHalf, Busy, HalvesDisagree, NoSuchAddress, NotInRange}
+use Rattle.controller.specs.declared.effect.Effect.{Effect}
 use Rattle.controller.specs.declared.registers.Registers.{Registers}
-use Rattle.controller.specs.Part.{halfFits, isFour, awaiting}
-use Rattle.controller.specs.Instructions.{Result, decode, bit, lineCount, lineMode, rearranged, lacking, effectOf, ticksOf, obey, forgotten}
-use Rattle.controller.proofs.Decoded.{in-set}
-use Rattle.controller.proofs.Obeyed.{leaves-no-half, answers-0-or-3, keeps-memories, function-set-is-done, function-set-sets-lines, function-set-keeps-memories}
-use Rattle.bus.specs.declared.kind.Kind.{Kind}
-use Rattle.bus.specs.Halves.{upper, firstHalf}
-use Rattle.bus.specs.Transfer.{stepOf}
-use Rattle.bus.proofs.Free.{freed, on-eight, first-waits, second-completes, data-disagrees, status-disagrees, read-disagrees}
-use Rattle.restart.specs.Writes.{halves}
-use Rattle.restart.specs.Statement.{answers}
+use Rattle.controller.specs.Answers.{Said, saying, refused, saidOf}
+use Rattle.controller.specs.Memory.{Change, byteAt, storeAt, displayAfter, characterAfter}
+use Rattle.controller.specs.Part.{placed, awaiting, counterStepped, with, waited, longest, inRange, freshRegisters, freshWith, switchedOn}
+use Rattle.controller.specs.Result.{Result, done, forgotten, leaving}
+use Rattle.controller.specs.Told.{Told, toldWith, addressed, carried, unchanged}
+use Rattle.controller.proofs.Ranged.{InRange, facts, test}
+use Rattle.instructions.specs.declared.instruction.Instruction.{Instruction}
+use Rattle.instructions.specs.declared.instruction.Instruction.the-variants.{Nothing, Clear, Home, EntryMode, OnOff, Move, FunctionSet, SetCharacter, SetDisplay}
+use Rattle.instructions.specs.Instructions.{bit, lineCount, lineMode, decode, moved, unlessChanged, rearranged, rowOf, obey}
+use Rattle.instructions.proofs.Decoded.{decoded-by-range}
+use Rattle.instructions.proofs.Rows.{leaves-no-half, answers-done-or-three, only-clear-changes, function-set-is-done, function-set-sets-lines, function-set-keeps-memories}
+use Rattle.step.specs.Data.{shiftAfter, writeData, readData, readStatus, readOf, statusOf, act}
+use Rattle.step.specs.Step.{firstHalf, secondHalf, onFour, onBus, refusedBusy, resultFor, stepped}
+use Rattle.step.proofs.Joined.{joined, bus-joined}
+use Rattle.bus.specs.Transfer.{told, transferOf, waitedTold, waitOf}
+use Rattle.bus.specs.Events.{toldBy, afterEvents, reached, waits, sum}
+use Rattle.controller.specs.declared.registers.Mode.{Mode}
+use Rattle.bus.proofs.Free.{freed, withBusy, waits-only-busy, transfer-steps, on-eight, first-waits, second-completes, other-disagrees}
+use Rattle.bus.proofs.Range.{step-in-range, range-kept, fresh-in-range, reached-in-range}
+use Rattle.bus.proofs.Busy.{waits-kept, waits-lower}
+use Rattle.restart.specs.Writes.{halves, Write, toldOf, Given, after, AtEach, patiently, patient, FourLines, lowerFrom, lowerLines, restartOf}
+use Rattle.restart.specs.Compared.{Holds, answers, freshLike}
+use Rattle.restart.specs.Polling.{Calm}
 use Rattle.restart.proofs.Leads.{stepWith, Leads}
 
 -- ---- the bytes of the restart
@@ -40,7 +70,7 @@ unfolding Sets
 sets h b k e = λ l p.
     let n : ℕ = h * 16 + l in (
       record { lines = lineMode (bit 3 n); tall = bit 2 n },
-      in-set n (omega arith) (omega arith) ∙ ap (λ (x : LineCount). FunctionSet x (record { lines = lineMode (bit 3 n); tall = bit 2 n })) (e l p),
+      decoded-by-range n .set (omega arith) (omega arith) ∙ ap (λ (x : LineCount). FunctionSet x (record { lines = lineMode (bit 3 n); tall = bit 2 n })) (e l p),
     )
 
 three-sets-eight : Sets 3 Eight
@@ -71,10 +101,10 @@ unfoldable pub restarted : Registers
 restarted = record {
   counter = Display (display 0x00);
   shift = shift 0;
-  bus = Four;
   mode = record { lines = Two; tall = false };
   entry = record { up = true; shifts = false };
   lights = record { display = false; cursor = false; blink = false };
+  bus = Four;
   half = Half.Nothing;
   busy = 10;
 }
@@ -85,121 +115,152 @@ Restarted r = r ≡ restarted
 unfoldable pub Allowed : ℕ → ℕ → Type 0
 Allowed i m = T (answers i m)
 
--- the upper lines behind 3, 3, 3, 2, and behind the first 3
-abbrev bytes : List ℕ
-bytes = drop 4 halves
-
-abbrev others : List ℕ
-others = drop 1 halves
-
-To : ℕ → List ℕ → Registers → Type 0
-To i hs r = Leads Allowed Restarted i hs r
-
--- ---- one write
--- a step that is known to come to s
-leads-by : (i : ℕ) (hs : List ℕ) (x s : Result) → x ≡ s → s .change ≡ Change.Nothing → T (answers i (s .number)) → To (suc i) hs (s .registers)
-    → (x .change ≡ Change.Nothing) × Allowed i (x .number) × Leads Allowed Restarted (suc i) hs (x .registers)
-unfolding To Allowed
-leads-by i hs x s e m a go =
-    subst⁻¹ (λ (y : Result). (y .change ≡ Change.Nothing) × T (answers i (y .number)) × Leads Allowed Restarted (suc i) hs (y .registers)) e (m, a, go)
-
--- on eight lines: a function set
-eight-leads : (i h : ℕ) (b : LineCount) (hs : List ℕ) (r : Registers) → Sets h b → r .bus ≡ Eight
-    → ((s : Registers) → s .bus ≡ b → s .half ≡ Half.Nothing → To (suc i) hs s) → To i (h ∷ hs) r
-unfolding To Leads Sets
-eight-leads i h b hs r sets e go = λ l x p.
-    let m : Mode = sets l p .0 in
-    leads-by i hs (stepWith h l x r) (obey (FunctionSet b m) (freed r))
-    (on-eight r (h * 16 + l) x e ∙ ap (λ (j : Instruction). obey j (freed r)) (sets l p .1))
-    (function-set-keeps-memories (freed r) b m)
-    (subst⁻¹ (λ (n : ℕ). T (answers i n)) (function-set-is-done (freed r) b m) (done-allowed i))
-    (go (obey (FunctionSet b m) (freed r) .registers) (function-set-sets-lines (freed r) b m) (leaves-no-half (freed r) (FunctionSet b m)))
-
 upper-is : (h l : ℕ) → h < 16 → l < 16 → upper (h * 16 + l) ≡ h
 upper-is h l p q = omega arith
-
--- on four lines with no half: the first half waits
-first-leads : (i h : ℕ) (hs : List ℕ) (r : Registers) → h < 16 → r .bus ≡ Four → r .half ≡ Half.Nothing
-    → To (suc i) hs (awaiting r (Half.InstructionWrite h) 0) → To i (h ∷ hs) r
-unfolding To Leads firstHalf
-first-leads i h hs r k e f go = λ l x p.
-    leads-by i hs (stepWith h l x r) (firstHalf Kind.InstructionWrite (freed r) (h * 16 + l) 0) (first-waits r (h * 16 + l) x e f) refl (half-allowed i)
-    (subst⁻¹ (λ (u : ℕ). To (suc i) hs (awaiting r (Half.InstructionWrite u) 0)) (upper-is h l k p) go)
-
--- the half of an instruction is completed to a byte that is no Clear
-second-leads : (i u h : ℕ) (hs : List ℕ) (r : Registers) → h < 16 → r .bus ≡ Four → r .half ≡ Half.InstructionWrite u → T (not (eqb (u * 16 + h) 0x01))
-    → T (answers i (obey (decode (u * 16 + h)) (freed r) .number)) → To (suc i) hs (obey (decode (u * 16 + h)) (freed r) .registers) → To i (h ∷ hs) r
-unfolding To Leads
-second-leads i u h hs r k e f n a go = λ l x p.
-    leads-by i hs (stepWith h l x r) (obey (decode (u * 16 + h)) (freed r))
-    (second-completes r (h * 16 + l) x u e f ∙ ap (λ (m : ℕ). obey (decode (u * 16 + m)) (freed r)) (upper-is h l k p))
-    (keeps-memories (freed r) (u * 16 + h) n)
-    a
-    go
-
--- ---- a byte as two halves
-abbrev obeyed : ℕ → ℕ → Registers → Registers
-obeyed u h r = obey (decode (u * 16 + h)) (freed (awaiting r (Half.InstructionWrite u) 0)) .registers
-
-byte-leads : (i u h : ℕ) (hs : List ℕ) (r : Registers) → T (ltb u 16) → T (ltb h 16) → T (not (eqb (u * 16 + h) 0x01)) → r .bus ≡ Four → r .half ≡ Half.Nothing
-    → T (answers (suc i) (obey (decode (u * 16 + h)) (freed (awaiting r (Half.InstructionWrite u) 0)) .number)) → To (suc (suc i)) hs (obeyed u h r)
-    → To i (u ∷ h ∷ hs) r
-byte-leads i u h hs r p q n e f a go =
-    first-leads i u (h ∷ hs) r (ltb→lt u 16 p) e f
-    (second-leads (suc i) u h hs (awaiting r (Half.InstructionWrite u) 0) (ltb→lt h 16 q) e refl n a go)
-
--- 28, 08, 02, 06
-arrived : (i : ℕ) (r : Registers) → r ≡ restarted → To i [] r
-unfolding To Leads Restarted
-arrived i r e = e
-
-bytes-lead : (i : ℕ) (r : Registers) → r .bus ≡ Four → r .half ≡ Half.Nothing → To i bytes r
-unfolding restarted decode bit lacking effectOf ticksOf rearranged obey
-bytes-lead i r e f =
-    byte-leads _ _ _ _ r tt tt tt e f tt
-    (byte-leads _ _ _ _ _ tt tt tt refl refl tt
-    (byte-leads _ _ _ _ _ tt tt tt refl refl tt
-    (byte-leads _ _ _ _ _ tt tt tt refl refl tt (arrived _ _ refl))))
-
--- ---- 3, 3, 2 and the bytes, from registers with no half
-no-half-leads : (i : ℕ) (b : LineCount) (r : Registers) → r .bus ≡ b → r .half ≡ Half.Nothing → To i others r
-unfolding decode bit lacking effectOf ticksOf rearranged obey
-no-half-leads i Eight r e f =
-    eight-leads i _ Eight _ r three-sets-eight e λ s d g.
-    eight-leads (suc i) _ Eight _ s three-sets-eight d λ s′ d′ g′.
-    eight-leads (suc (suc i)) _ Four _ s′ two-sets-four d′ (bytes-lead (suc (suc (suc i))))
-no-half-leads i Four r e f =
-    byte-leads i _ _ _ r tt tt tt e f tt
-    (eight-leads (suc (suc i)) _ Four _ _ two-sets-four refl (bytes-lead (suc (suc (suc i)))))
 
 -- whatever half waited, the half 3 completes no Clear
 never-clear : (u : ℕ) → T (not (eqb (u * 16 + 3) 0x01))
 never-clear u = not-T (eqb (u * 16 + 3) 0x01) λ t. let e : u * 16 + 3 ≡ 0x01 = eqb→eq (u * 16 + 3) 0x01 t in omega arith
 
-abbrev completed : ℕ → Registers → Registers
-completed u r = obey (decode (u * 16 + 3)) (freed r) .registers
+-- ---- the writes lead to Q
+module _ (Q : Registers → Type 0) where
+  To : ℕ → List ℕ → Registers → Type 0
+  To i hs r = Leads Allowed Q i hs r
 
--- ---- the twelve writes, from every line count and every half
-other-leads : (r : Registers) → ((n x : ℕ) → stepOf (freed r) Kind.InstructionWrite n x ≡ forgotten 2 (freed r)) → r .bus ≡ Four → To 0 halves r
-unfolding To Leads
-other-leads r e d = λ l x p.
-    leads-by 0 others (stepWith 3 l x r) (forgotten 2 (freed r)) (e (3 * 16 + l) x) refl tt (no-half-leads 1 Four (awaiting r Half.Nothing 0) d refl)
+  arrived : (i : ℕ) (r : Registers) → Q r → To i [] r
+  unfolding To Leads
+  arrived i r q = q
 
-pub restart-leads : (b : LineCount) (h : Half) (r : Registers) → r .bus ≡ b → r .half ≡ h → T (halfFits b h) → Leads Allowed Restarted 0 halves r
-unfolding To halfFits isFour decode bit lacking effectOf ticksOf rearranged obey
-restart-leads Eight Half.Nothing r e f t = eight-leads 0 _ Eight others r three-sets-eight e (no-half-leads 1 Eight)
-restart-leads Eight (Half.InstructionWrite u) r e f t = absurd t
-restart-leads Eight (Half.DataWrite u) r e f t = absurd t
-restart-leads Eight Half.StatusRead r e f t = absurd t
-restart-leads Eight Half.DataRead r e f t = absurd t
-restart-leads Four Half.Nothing r e f t =
-    byte-leads 0 _ _ _ r tt tt tt e f tt
-    (eight-leads 2 _ Eight _ _ three-sets-eight refl λ s d g. eight-leads 3 _ Four _ s two-sets-four d (bytes-lead 4))
-restart-leads Four (Half.InstructionWrite u) r e f t =
-    let m : ℕ = obey (decode (u * 16 + 3)) (freed r) .number in
-    second-leads 0 u _ others r (ltb→lt 3 16 tt) e f (never-clear u)
-    (first-allowed (eqb m 0) (eqb m 20) (eqb m 2) (eqb m 3) (answers-0-or-3 (freed r) (decode (u * 16 + 3))))
-    (no-half-leads 1 (completed u r .bus) (completed u r) refl (leaves-no-half (freed r) (decode (u * 16 + 3))))
-restart-leads Four (Half.DataWrite u) r e f t = other-leads r (λ n x. data-disagrees r n x u e f) e
-restart-leads Four Half.StatusRead r e f t = other-leads r (λ n x. status-disagrees r n x e f) e
-restart-leads Four Half.DataRead r e f t = other-leads r (λ n x. read-disagrees r n x e f) e
+  -- a step that is known to come to s
+  leads-by : (i : ℕ) (hs : List ℕ) (x s : Result) → x ≡ s → s .change ≡ Change.Nothing → T (answers i (s .said .number)) → To (suc i) hs (s .registers)
+      → (x .change ≡ Change.Nothing) × Allowed i (x .said .number) × Leads Allowed Q (suc i) hs (x .registers)
+  unfolding To Allowed
+  leads-by i hs x s e m a go =
+      subst⁻¹ (λ (y : Result). (y .change ≡ Change.Nothing) × T (answers i (y .said .number)) × Leads Allowed Q (suc i) hs (y .registers)) e (m, a, go)
+
+  -- on eight lines: a function set
+  eight-leads : (i h : ℕ) (b : LineCount) (hs : List ℕ) (r : Registers) → Sets h b → r .bus ≡ Eight
+      → ((s : Registers) → s .bus ≡ b → s .half ≡ Half.Nothing → To (suc i) hs s) → To i (h ∷ hs) r
+  unfolding To Leads Sets
+  eight-leads i h b hs r sets e go = λ l x p.
+      let m : Mode = sets l p .0 in
+      leads-by i hs (stepWith h l x r) (obey (FunctionSet b m) (freed r))
+      (on-eight r (h * 16 + l) x e ∙ ap (λ (j : Instruction). obey j (freed r)) (sets l p .1))
+      (function-set-keeps-memories b m (freed r))
+      (subst⁻¹ (λ (n : ℕ). T (answers i n)) (function-set-is-done b m (freed r)) (done-allowed i))
+      (go (obey (FunctionSet b m) (freed r) .registers) (function-set-sets-lines b m (freed r)) (leaves-no-half (FunctionSet b m) (freed r)))
+
+  -- on four lines with no half: the first half waits
+  first-leads : (i h : ℕ) (hs : List ℕ) (r : Registers) → h < 16 → r .bus ≡ Four → r .half ≡ Half.Nothing
+      → To (suc i) hs (awaiting r (Half.Waiting InstructionWrite h) 0) → To i (h ∷ hs) r
+  unfolding To Leads firstHalf
+  first-leads i h hs r k e f go = λ l x p.
+      leads-by i hs (stepWith h l x r) (firstHalf InstructionWrite (freed r) (h * 16 + l) 0) (first-waits r (h * 16 + l) x e f) refl (half-allowed i)
+      (subst⁻¹ (λ (u : ℕ). To (suc i) hs (awaiting r (Half.Waiting InstructionWrite u) 0)) (upper-is h l k p) go)
+
+  -- the half of an instruction is completed to a byte that is no Clear
+  second-leads : (i u h : ℕ) (hs : List ℕ) (r : Registers) → h < 16 → r .bus ≡ Four → r .half ≡ Half.Waiting InstructionWrite u
+      → T (not (eqb (u * 16 + h) 0x01)) → T (answers i (obey (decode (u * 16 + h)) (freed r) .said .number))
+      → To (suc i) hs (obey (decode (u * 16 + h)) (freed r) .registers) → To i (h ∷ hs) r
+  unfolding To Leads
+  second-leads i u h hs r k e f n a go = λ l x p.
+      leads-by i hs (stepWith h l x r) (obey (decode (u * 16 + h)) (freed r))
+      (second-completes r (h * 16 + l) x u e f ∙ ap (λ (m : ℕ). obey (decode (u * 16 + m)) (freed r)) (upper-is h l k p))
+      (only-clear-changes (u * 16 + h) (freed r) n)
+      a
+      go
+
+  -- a byte as two halves
+  byte-leads : (i u h : ℕ) (hs : List ℕ) (r : Registers) → T (ltb u 16) → T (ltb h 16) → T (not (eqb (u * 16 + h) 0x01)) → r .bus ≡ Four
+      → r .half ≡ Half.Nothing → T (answers (suc i) (obey (decode (u * 16 + h)) (freed (awaiting r (Half.Waiting InstructionWrite u) 0)) .said .number))
+      → To (suc (suc i)) hs (obey (decode (u * 16 + h)) (freed (awaiting r (Half.Waiting InstructionWrite u) 0)) .registers) → To i (u ∷ h ∷ hs) r
+  byte-leads i u h hs r p q n e f a go =
+      first-leads i u (h ∷ hs) r (ltb→lt u 16 p) e f
+      (second-leads (suc i) u h hs (awaiting r (Half.Waiting InstructionWrite u) 0) (ltb→lt h 16 q) e refl n a go)
+
+  -- ---- 3, 3, 3, 2, where the rest leads on from four lines with no half waiting
+  module _ (hs : List ℕ) (go : (s : Registers) → s .bus ≡ Four → s .half ≡ Half.Nothing → To 4 hs s) where
+    -- behind the first 3, from registers with no half
+    no-half-leads : (b : LineCount) (r : Registers) → r .bus ≡ b → r .half ≡ Half.Nothing → To 1 (3 ∷ 3 ∷ 2 ∷ hs) r
+    unfolding decode bit rearranged obey
+    no-half-leads Eight r e f =
+        eight-leads 1 3 Eight (3 ∷ 2 ∷ hs) r three-sets-eight e λ s d g.
+        eight-leads 2 3 Eight (2 ∷ hs) s three-sets-eight d λ s′ d′ g′.
+        eight-leads 3 2 Four hs s′ two-sets-four d′ go
+    no-half-leads Four r e f = byte-leads 1 3 3 (2 ∷ hs) r tt tt tt e f tt (eight-leads 3 2 Four hs _ two-sets-four refl go)
+
+    -- a half of another kind is forgotten
+    other-leads : (r : Registers) → ((n x : ℕ) → resultFor (freed r) InstructionWrite n x ≡ forgotten 2 (freed r)) → r .bus ≡ Four → To 0 (3 ∷ 3 ∷ 3 ∷ 2 ∷ hs) r
+    unfolding To Leads
+    other-leads r e d = λ l x p.
+        leads-by 0 (3 ∷ 3 ∷ 2 ∷ hs) (stepWith 3 l x r) (forgotten 2 (freed r)) (e (3 * 16 + l) x) refl tt (no-half-leads Four (awaiting r Half.Nothing 0) d refl)
+
+    -- whatever the half of an instruction is completed to
+    instruction-leads : (u : ℕ) (r : Registers) → r .bus ≡ Four → r .half ≡ Half.Waiting InstructionWrite u → To 0 (3 ∷ 3 ∷ 3 ∷ 2 ∷ hs) r
+    instruction-leads u r e f =
+        let i : Instruction = decode (u * 16 + 3) in
+        let m : ℕ = obey i (freed r) .said .number in
+        second-leads 0 u 3 (3 ∷ 3 ∷ 2 ∷ hs) r (ltb→lt 3 16 tt) e f (never-clear u)
+        (first-allowed (eqb m 0) (eqb m 20) (eqb m 2) (eqb m 3) (answers-done-or-three i (freed r)))
+        (no-half-leads (obey i (freed r) .registers .bus) (obey i (freed r) .registers) refl (leaves-no-half i (freed r)))
+
+    waiting-leads : (w : Kind) (u : ℕ) (r : Registers) → r .bus ≡ Four → r .half ≡ Half.Waiting w u → To 0 (3 ∷ 3 ∷ 3 ∷ 2 ∷ hs) r
+    waiting-leads InstructionWrite u r e f = instruction-leads u r e f
+    waiting-leads DataWrite u r e f = other-leads r (λ n x. other-disagrees r n x DataWrite u refl e f) e
+    waiting-leads StatusRead u r e f = other-leads r (λ n x. other-disagrees r n x StatusRead u refl e f) e
+    waiting-leads DataRead u r e f = other-leads r (λ n x. other-disagrees r n x DataRead u refl e f) e
+
+    -- from every line count and every half
+    head-leads : (b : LineCount) (h : Half) (r : Registers) → r .bus ≡ b → r .half ≡ h → T (halfFits b h) → Leads Allowed Q 0 (3 ∷ 3 ∷ 3 ∷ 2 ∷ hs) r
+    unfolding To halfFits isFour decode bit rearranged obey
+    head-leads Eight Half.Nothing r e f t = eight-leads 0 3 Eight (3 ∷ 3 ∷ 2 ∷ hs) r three-sets-eight e (no-half-leads Eight)
+    head-leads Eight (Half.Waiting w u) r e f t = absurd t
+    head-leads Four Half.Nothing r e f t =
+        byte-leads 0 3 3 (3 ∷ 2 ∷ hs) r tt tt tt e f tt
+        (eight-leads 2 3 Eight (2 ∷ hs) _ three-sets-eight refl λ s d g. eight-leads 3 2 Four hs s two-sets-four d go)
+    head-leads Four (Half.Waiting w u) r e f t = waiting-leads w u r e f
+
+-- ---- 28, 08, 02, 06
+bytes-lead : (r : Registers) → r .bus ≡ Four → r .half ≡ Half.Nothing → To Restarted 4 (drop 4 halves) r
+unfolding Restarted restarted decode bit rearranged obey
+bytes-lead r e f =
+    byte-leads Restarted _ _ _ _ r tt tt tt e f tt
+    (byte-leads Restarted _ _ _ _ _ tt tt tt refl refl tt
+    (byte-leads Restarted _ _ _ _ _ tt tt tt refl refl tt
+    (byte-leads Restarted _ _ _ _ _ tt tt tt refl refl tt (arrived Restarted _ _ refl))))
+
+pub restart-leads : (r : Registers) → T (halfFits (r .bus) (r .half)) → Leads Allowed Restarted 0 halves r
+restart-leads r t = head-leads Restarted (drop 4 halves) bytes-lead (r .bus) (r .half) r refl refl t
+
+-- ---- behind 3, 3, 3, 2 and behind each byte the part is on four lines, and no half waits
+calm : (i : ℕ) (r : Registers) → r .bus ≡ Four → r .half ≡ Half.Nothing → To Calm i [] r
+calm i r e f = arrived Calm i r (record { four = e; no-half = f })
+
+calm-bytes : (bytes : ℕ) (r : Registers) → bytes ≤ 4 → r .bus ≡ Four → r .half ≡ Half.Nothing → To Calm 4 (take (2 * bytes) (drop 4 halves)) r
+unfolding decode bit rearranged obey
+calm-bytes zero r h e f = calm _ r e f
+calm-bytes (suc zero) r h e f = byte-leads Calm _ _ _ _ r tt tt tt e f tt (calm _ _ refl refl)
+calm-bytes (suc (suc zero)) r h e f =
+    byte-leads Calm _ _ _ _ r tt tt tt e f tt (byte-leads Calm _ _ _ _ _ tt tt tt refl refl tt (calm _ _ refl refl))
+calm-bytes (suc (suc (suc zero))) r h e f =
+    byte-leads Calm _ _ _ _ r tt tt tt e f tt
+    (byte-leads Calm _ _ _ _ _ tt tt tt refl refl tt (byte-leads Calm _ _ _ _ _ tt tt tt refl refl tt (calm _ _ refl refl)))
+calm-bytes (suc (suc (suc (suc zero)))) r h e f =
+    byte-leads Calm _ _ _ _ r tt tt tt e f tt
+    (byte-leads Calm _ _ _ _ _ tt tt tt refl refl tt
+    (byte-leads Calm _ _ _ _ _ tt tt tt refl refl tt (byte-leads Calm _ _ _ _ _ tt tt tt refl refl tt (calm _ _ refl refl))))
+calm-bytes (suc (suc (suc (suc (suc n))))) r h e f = absurd (omega arith)
+
+-- 3, 3, 3, 2 and so many bytes
+taken : (bytes : ℕ) → bytes ≤ 4 → take (4 + 2 * bytes) halves ≡ 3 ∷ 3 ∷ 3 ∷ 2 ∷ take (2 * bytes) (drop 4 halves)
+taken zero h = refl
+taken (suc zero) h = refl
+taken (suc (suc zero)) h = refl
+taken (suc (suc (suc zero))) h = refl
+taken (suc (suc (suc (suc zero)))) h = refl
+taken (suc (suc (suc (suc (suc n))))) h = absurd (omega arith)
+
+pub calm-leads : (bytes : ℕ) (r : Registers) → bytes ≤ 4 → T (halfFits (r .bus) (r .half)) → Leads Allowed Calm 0 (take (4 + 2 * bytes) halves) r
+calm-leads bytes r h t =
+    subst⁻¹ (λ (hs : List ℕ). Leads Allowed Calm 0 hs r) (taken bytes h)
+    (head-leads Calm (take (2 * bytes) (drop 4 halves)) (λ s. calm-bytes bytes s h) (r .bus) (r .half) r refl refl t)

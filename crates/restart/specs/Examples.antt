@@ -6,9 +6,11 @@ use lib.ListN.{getD, replicate}
 use Rattle.counters.specs.declared.counter.Counter.{Counter}
 use Rattle.counters.specs.declared.counter.Counter.the-variants.{Display, Character}
 use Rattle.controller.specs.declared.Controller.{Controller}
-use Rattle.bus.specs.declared.kind.Kind.the-variants.{InstructionWrite, DataWrite, StatusRead}
-use Rattle.bus.specs.declared.event.Event.{Event}
-use Rattle.bus.specs.declared.event.Event.the-variants.{Transfer, Wait}
+use Rattle.controller.specs.Answers.{Said, saying}
+use Rattle.controller.specs.Part.{longest}
+use Rattle.event.specs.declared.Event.{Event}
+use Rattle.event.specs.declared.Event.the-variants.{Transfer, Wait}
+use Rattle.event.specs.declared.Kind.the-variants.{InstructionWrite, DataWrite, StatusRead}
 use Rattle.bus.specs.Events.{toldBy, reached}
 use Rattle.dots.specs.Digit.{shownOn}
 
@@ -18,6 +20,7 @@ pub data Look : Type 0 where
   CharacterAddress : Look
   Cell : ℕ → Look
   AllCells : Look
+  AllCharacters : Look
   Shift : Look
   BusyTime : Look
   DigitZero : Look
@@ -35,6 +38,7 @@ seen DisplayAddress c = displayAddress (c .registers .counter)
 seen CharacterAddress c = characterAddress (c .registers .counter)
 seen (Cell n) c = getD (c .display) n 0 ∷ []
 seen AllCells c = c .display
+seen AllCharacters c = c .character
 seen Shift c = c .registers .shift .0 ∷ []
 seen BusyTime c = c .registers .busy ∷ []
 -- the cells that digit 0 shows on the first and the second line
@@ -45,10 +49,9 @@ unfoldable pub seenAll : List Look → Controller → List ℕ
 seenAll [] c = []
 seenAll (l ∷ ls) c = seen l c ++ seenAll ls c
 
--- an answer, a value, and what is seen afterwards
+-- what is told, and what is seen afterwards
 pub record Seen : Type 0 where
-  pub number : ℕ
-  pub value : ℕ
+  pub said : Said
   pub sees : List ℕ
 
 -- what came before, the event, where to look, and what is wanted
@@ -60,19 +63,18 @@ pub record Case : Type 0 where
 
 unfoldable pub found : Case → Seen
 found p = record {
-  number = toldBy (p .event) (reached (p .before)) .number;
-  value = toldBy (p .event) (reached (p .before)) .value;
+  said = toldBy (p .event) (reached (p .before)) .said;
   sees = seenAll (p .looks) (toldBy (p .event) (reached (p .before)) .controller);
 }
 
 -- bytes written with RS = 0, the busy time waited out before each and behind the last
 unfoldable pub calm : List ℕ → List Event
-calm [] = Wait 3750 ∷ []
-calm (b ∷ bs) = Wait 3750 ∷ Transfer InstructionWrite b ∷ calm bs
+calm [] = Wait longest ∷ []
+calm (b ∷ bs) = Wait longest ∷ Transfer InstructionWrite b ∷ calm bs
 
 abbrev case : List Event → Event → List Look → ℕ → ℕ → List ℕ → Case
 case before event looks number value sees =
-    record { before = before; event = event; looks = looks; wanted = record { number = number; value = value; sees = sees } }
+    record { before = before; event = event; looks = looks; wanted = record { said = saying number value; sees = sees } }
 
 unfoldable pub examples : List Case
 examples =
@@ -102,7 +104,7 @@ examples =
     -- P10 four lines, half 0 of an instruction waiting: the restart's first write completes 03 hex, home (from address 05 and shift 1)
     ∷ case (calm (0x85 ∷ 0x18 ∷ 0x20 ∷ 0x00 ∷ [])) (Transfer InstructionWrite 0x30) (DisplayAddress ∷ Shift ∷ BusyTime ∷ []) 0 0 (0x00 ∷ 0 ∷ 410 ∷ [])
     -- P11 four lines, a data half waiting, then an instruction half: refusal 2, no cell changed
-    ∷ case (calm (0x20 ∷ []) ++ (Transfer DataWrite 0x40 ∷ [])) (Transfer InstructionWrite 0x30) (AllCells ∷ []) 2 0 (replicate 80 0x20)
+    ∷ case (calm (0x20 ∷ []) ++ (Transfer DataWrite 0x40 ∷ [])) (Transfer InstructionWrite 0x30) (AllCells ∷ AllCharacters ∷ []) 2 0 (replicate 80 0x20 ++ replicate 64 0)
     ∷ []
 
 -- the claim: in each case what is found is what is wanted

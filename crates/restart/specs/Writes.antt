@@ -4,10 +4,12 @@ use mathlib.Core.Path.{_≡_}
 use mathlib.Core.Bool.{cond}
 use mathlib.Core.List.{List, [], _∷_}
 use lib.ListN.{getD}
+use Rattle.event.specs.declared.Kind.the-variants.{InstructionWrite}
 use Rattle.controller.specs.declared.Controller.{Controller}
-use Rattle.controller.specs.Part.{inRange}
-use Rattle.bus.specs.declared.kind.Kind.{Kind}
-use Rattle.bus.specs.Transfer.{Told, notInRange, transferOf}
+use Rattle.controller.specs.Answers.{saying}
+use Rattle.controller.specs.Part.{longest, inRange}
+use Rattle.controller.specs.Told.{Told, unchanged}
+use Rattle.bus.specs.Transfer.{transferOf}
 use Rattle.bus.specs.Events.{waits}
 
 -- first 3, 3, 3, 2 on the upper lines; then 28, 08, 02, 06 (hex), each as two halves
@@ -19,32 +21,32 @@ pub record Write : Type 0 where
   pub before : List ℕ
   pub lower : ℕ
 
--- what the write with the upper lines h is answered, and the controller afterwards
-unfoldable pub written : ℕ → Write → Controller → Told
-written h w c = transferOf (waits (w .before) c) Kind.InstructionWrite (h * 16 + w .lower)
+-- what is told of the write with the upper lines h
+unfoldable pub toldOf : ℕ → Write → Controller → Told
+toldOf h w c = transferOf (waits (w .before) c) InstructionWrite (h * 16 + w .lower)
 
 -- the writes ws carry the upper lines hs, and before each of them the busy time has been waited out
 unfoldable pub Given : List ℕ → List Write → Controller → Type 0
 Given [] [] c = Unit {0}
 Given [] (w ∷ ws) c = ⊥
 Given (h ∷ hs) [] c = ⊥
-Given (h ∷ hs) (w ∷ ws) c = (w .lower < 16) × (waits (w .before) c .registers .busy ≡ 0) × Given hs ws (written h w c .controller)
+Given (h ∷ hs) (w ∷ ws) c = (w .lower < 16) × (waits (w .before) c .registers .busy ≡ 0) × Given hs ws (toldOf h w c .controller)
 
 -- the controller after all of the writes
 unfoldable pub after : List ℕ → List Write → Controller → Controller
 after [] ws c = c
 after (h ∷ hs) [] c = c
-after (h ∷ hs) (w ∷ ws) c = after hs ws (written h w c .controller)
+after (h ∷ hs) (w ∷ ws) c = after hs ws (toldOf h w c .controller)
 
 -- P holds of what each write is told; the first argument counts the writes
 unfoldable pub AtEach : (P : ℕ → Told → Type 0) → ℕ → List ℕ → List Write → Controller → Type 0
 AtEach P i [] ws c = Unit {0}
 AtEach P i (h ∷ hs) [] c = Unit {0}
-AtEach P i (h ∷ hs) (w ∷ ws) c = P i (written h w c) × AtEach P (suc i) hs ws (written h w c .controller)
+AtEach P i (h ∷ hs) (w ∷ ws) c = P i (toldOf h w c) × AtEach P (suc i) hs ws (toldOf h w c .controller)
 
 -- writes with these lower lines, each after a wait of 3,750 ticks
 abbrev pub patiently : ℕ → Write
-patiently l = record { before = 3750 ∷ []; lower = l }
+patiently l = record { before = longest ∷ []; lower = l }
 
 unfoldable pub patient : List ℕ → List Write
 patient [] = []
@@ -67,4 +69,4 @@ lowerLines ls = lowerFrom 0 12 ls
 
 -- the whole restart with these lower lines, each write after a wait of 3,750 ticks: answered 0, or 16 for a controller that is not in range
 unfoldable pub restartOf : Controller → List ℕ → Told
-restartOf c lower = cond (inRange (c .registers)) (record { number = 0; value = 0; controller = after halves (patient lower) c }) (notInRange c)
+restartOf c lower = cond (inRange (c .registers)) (record { said = saying 0 0; controller = after halves (patient lower) c }) (unchanged 16 c)

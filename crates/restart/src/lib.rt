@@ -2,16 +2,16 @@
 ghost use Prim.Native.Nat.{_≤_, _%_};
 ghost use mathlib.Core.Path.{_≡_};
 ghost use Rattle.bus.specs.Transfer.{told};
-ghost use Rattle.restart.specs.Writes.{patiently, written, lowerLines, restartOf};
+ghost use Rattle.restart.specs.Writes.{patiently, toldOf, lowerLines, restartOf};
 use bus::Outcome;
-use bus::kind::Kind;
 use controller::Controller;
 use controller::answer::Answer;
+use event::Kind;
 
 // One write of the restart, after the busy time.
 fn write(controller: Controller, upper: u8, lower: u8) -> Controller
     requires { ⌜ upper ≤ 15 ⌝ }
-    ensures { λ r. ⌜ r ≡ written upper (patiently (lower % 16)) controller .controller ⌝ }
+    ensures { λ r. ⌜ r ≡ toldOf upper (patiently (lower % 16)) controller .controller ⌝ }
 {
     let waited = bus::wait(controller, Controller::LONGEST);
     let free = waited.controller;

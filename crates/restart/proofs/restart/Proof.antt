@@ -12,14 +12,14 @@ use Rattle.condition.proofs.Tests.{each}
 use Rattle.controller.specs.declared.Controller.{Controller}
 use Rattle.controller.specs.declared.answer.Answer.{Answer}
 use Rattle.bus.specs.Transfer.{told}
-use Rattle.restart.specs.Writes.{halves, patiently, written, after as afterAll, patient, lowerLines, restartOf}
+use Rattle.restart.specs.Writes.{halves, patiently, toldOf, after as afterAll, patient, lowerLines, restartOf}
 use Rattle.restart.proofs.restart.Statement.{statement}
 use Rattle.restart.proofs.restart.Tie as tie
 
 -- the controller after the first n of the twelve writes
 afterFirst : ℕ → Controller → List ℕ → Controller
 afterFirst zero c lower = c
-afterFirst (suc n) c lower = written (getD halves n 0) (patiently (getD lower n 0 % 16)) (afterFirst n c lower) .controller
+afterFirst (suc n) c lower = toldOf (getD halves n 0) (patiently (getD lower n 0 % 16)) (afterFirst n c lower) .controller
 
 all-twelve : (c : Controller) (lower : List ℕ) → afterFirst 12 c lower ≡ afterAll halves (patient (lowerLines lower)) c
 unfolding afterFirst afterAll patient
@@ -73,7 +73,7 @@ loop-again c =
       omega arith,
       rw (add-one i)
           (c .write .ensures
-          ∙ ap (λ (x : Controller). written (getD halves i 0) (patiently (getD lower i 0 % 16)) x .controller) (c .before .before .loop .inv .1)),
+          ∙ ap (λ (x : Controller). toldOf (getD halves i 0) (patiently (getD lower i 0 % 16)) x .controller) (c .before .before .loop .inv .1)),
     )
 
 returns-2 : tie.Need-returns-2 Inv-loop μ-loop

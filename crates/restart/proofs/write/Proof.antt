@@ -1,9 +1,10 @@
 use Prim.Native.Nat.{_+_, _*_, _%_}
 use mathlib.Core.Path.{ap, _∙_}
-use Rattle.bus.specs.declared.kind.Kind.{Kind}
-use Rattle.bus.specs.Transfer.{Told, transferOf}
+use Rattle.event.specs.declared.Kind.{Kind}
+use Rattle.bus.specs.Transfer.{transferOf}
+use Rattle.controller.specs.Told.{Told}
 use Rattle.bus.specs.Events.{waits}
-use Rattle.restart.specs.Writes.{written}
+use Rattle.restart.specs.Writes.{toldOf}
 use borrow.Author.Needs.{needs}
 use Rattle.restart.proofs.write.Statement.{statement}
 use Rattle.restart.proofs.write.Tie as tie
@@ -21,7 +22,7 @@ transfer-requires : tie.Need-transfer-requires
 transfer-requires c κs = search needs
 
 returns : tie.Need-returns
-unfolding written waits
+unfolding toldOf waits
 returns c =
     ap (λ (t : Told). t .controller) (c .before .transfer .ensures)
     ∙ ap (λ (t : Told). transferOf (t .controller) Kind.InstructionWrite (c .before .before .before .before .args .upper * 16 + c .before .before .before .before .args .lower % 16) .controller)
