@@ -5,6 +5,7 @@ use mathlib.Core.Logic.{_⊎_, _≢_, _↔_, ⊎-elim, inl, inr}
 use mathlib.Core.Bool.{Bool, true, false, cond, not, _&&_, _||_, Bool·beq}
 use mathlib.Core.List.{List, [], _∷_}
 use native.Mathlib.Omega.{arith}
+use borrow.Author.Tests.{eq-eqb}
 use lib.Dec.{T, ltb, leb, eqb, leb→le, le→leb, eqb→eq, eqb-refl, T-not, lit≤, ltb→lt, lt→ltb}
 use lib.ListN.{getD, set, replicate}
 use lib.Seq.{getD-set-other}
@@ -81,38 +82,51 @@ pub transfer-steps : (c : Controller) (k : Kind) (n : ℕ) → T (inRange (c .re
 unfolding transferOf
 transfer-steps c k n t = ap (λ (b : Bool). cond b (stepped c k n) (unchanged 16 c)) (is-true (inRange (c .registers)) t)
 
+-- ---- a transfer that is not refused with 1
+pub idle-free : (r : Registers) (k : Kind) → r .busy ≡ 0 → refusedBusy r k ≡ false
+unfolding refusedBusy
+idle-free r k e = ap (λ (x : Bool). not x && not (isStatus k)) (eq-eqb (r .busy) 0 e)
+
+module _ (r : Registers) (k : Kind) (n b : ℕ) (free : refusedBusy r k ≡ false) where
+  free-bus : resultFor r k n b ≡ onBus (r .bus) k r n (readOf k r b)
+  unfolding resultFor
+  free-bus = ap (λ (x : Bool). cond x (leaving 1 r) (onBus (r .bus) k r n (readOf k r b))) free
+
+  -- on eight lines the byte acts
+  pub eight-acts : r .bus ≡ Eight → resultFor r k n b ≡ act k r n (readOf k r b)
+  unfolding onBus
+  eight-acts e = free-bus ∙ ap (λ (x : LineCount). onBus x k r n (readOf k r b)) e
+
+  -- on four by the half that waits
+  pub four-acts : (h : Half) → r .bus ≡ Four → r .half ≡ h → resultFor r k n b ≡ onFour h k r n (readOf k r b)
+  unfolding onBus
+  four-acts h e f =
+      free-bus ∙ ap (λ (x : LineCount). onBus x k r n (readOf k r b)) e ∙ ap (λ (x : Half). onFour x k r n (readOf k r b)) f
+
 -- ---- one instruction write
 module _ (r : Registers) (n b : ℕ) where
   -- the part is free, so nothing is refused with 1
-  on-the-bus : resultFor (freed r) InstructionWrite n b ≡ onBus (r .bus) InstructionWrite (freed r) n 0
-  unfolding resultFor refusedBusy readOf
-  on-the-bus = refl
+  freed-free : refusedBusy (freed r) InstructionWrite ≡ false
+  freed-free = idle-free (freed r) InstructionWrite refl
 
   -- on eight lines the byte acts
   pub on-eight : r .bus ≡ Eight → resultFor (freed r) InstructionWrite n b ≡ obey (decode n) (freed r)
-  unfolding onBus act
-  on-eight e = on-the-bus ∙ ap (λ (x : LineCount). onBus x InstructionWrite (freed r) n 0) e
-
-  on-four : (h : Half) → r .bus ≡ Four → r .half ≡ h → resultFor (freed r) InstructionWrite n b ≡ onFour h InstructionWrite (freed r) n 0
-  unfolding onBus
-  on-four h e f =
-      on-the-bus
-      ∙ ap (λ (x : LineCount). onBus x InstructionWrite (freed r) n 0) e
-      ∙ ap (λ (x : Half). onFour x InstructionWrite (freed r) n 0) f
+  unfolding act
+  on-eight e = eight-acts (freed r) InstructionWrite n b freed-free e
 
   -- on four lines with no half, the first half waits
   pub first-waits : r .bus ≡ Four → r .half ≡ Half.Nothing → resultFor (freed r) InstructionWrite n b ≡ firstHalf InstructionWrite (freed r) n 0
-  unfolding onFour
-  first-waits e f = on-four Half.Nothing e f
+  unfolding onFour readOf
+  first-waits e f = four-acts (freed r) InstructionWrite n b freed-free Half.Nothing e f
 
   -- the half of an instruction is completed
   pub second-completes : (u : ℕ) → r .bus ≡ Four → r .half ≡ Half.Waiting InstructionWrite u
       → resultFor (freed r) InstructionWrite n b ≡ obey (decode (u * 16 + upper n)) (freed r)
   unfolding onFour secondHalf act
-  second-completes u e f = on-four (Half.Waiting InstructionWrite u) e f
+  second-completes u e f = four-acts (freed r) InstructionWrite n b freed-free (Half.Waiting InstructionWrite u) e f
 
   -- a half of another kind is forgotten
   pub other-disagrees : (w : Kind) (u : ℕ) → alike w InstructionWrite ≡ false → r .bus ≡ Four → r .half ≡ Half.Waiting w u
       → resultFor (freed r) InstructionWrite n b ≡ forgotten 2 (freed r)
   unfolding onFour secondHalf
-  other-disagrees w u a e f = on-four (Half.Waiting w u) e f ∙ rw a
+  other-disagrees w u a e f = four-acts (freed r) InstructionWrite n b freed-free (Half.Waiting w u) e f ∙ rw a

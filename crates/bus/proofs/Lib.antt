@@ -7,3 +7,4 @@ pub mod Reading
 pub mod Busy
 pub mod Free
 pub mod Settled
+pub mod Written

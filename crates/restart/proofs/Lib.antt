@@ -2,3 +2,4 @@ pub mod Leads
 pub mod Restarting
 pub mod Third
 pub mod Polling
+pub mod Cases

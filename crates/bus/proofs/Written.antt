@@ -1,0 +1,147 @@
+-- A data write is in the addressed cell, and a data read of that address returns it, on eight and on four lines.
+use Prim.Native.Nat.{ℕ, _+_, _-_, _*_, _≤_, _<_, _%_}
+use mathlib.Core.Path.{_≡_, _∙_, ap, refl, subst, subst⁻¹, sym}
+use mathlib.Core.Logic.{_⊎_, _≢_, _↔_, ⊎-elim, inl, inr}
+use mathlib.Core.Bool.{Bool, true, false, cond, not, _&&_, _||_, Bool·beq}
+use mathlib.Core.List.{List, [], _∷_}
+use native.Mathlib.Omega.{arith}
+use lib.Dec.{T, ltb, leb, eqb, leb→le, le→leb, eqb→eq, eqb-refl, T-not, lit≤, ltb→lt, lt→ltb}
+use lib.ListN.{getD, set, replicate, length, length-set, length-replicate}
+use lib.Seq.{getD-set-same}
+use Rattle.condition.specs.First.{Rule, _when_, firstOf, Exactly}
+use Rattle.condition.proofs.First.{first-given-exactly}
+use Rattle.condition.proofs.Tests.{is-true, holds, not-not, and-left, and-right, and-both, split, neqb→ne, met}
+use Rattle.counters.specs.declared.LineMode.{LineMode}
+use Rattle.counters.specs.declared.LineMode.the-variants.{One, Two}
+use Rattle.counters.specs.declared.counter.Counter.{Counter}
+use Rattle.counters.specs.declared.counter.Counter.the-variants.{Display, Character}
+use Rattle.counters.specs.declared.shift.Shift.{Shift}
+use Rattle.counters.specs.Address.{display, hasDisplay, hasCharacter, cellOf}
+use Rattle.counters.specs.Counter.{hasCounter, stepOf}
+use Rattle.counters.specs.Shift.{shift, hasShift}
+use Rattle.counters.proofs.Laws.{cell-exists}
+use Rattle.event.specs.declared.Event.{Event}
+use Rattle.event.specs.declared.Event.the-variants.{Transfer, Wait}
+use Rattle.event.specs.declared.Kind.{Kind}
+use Rattle.event.specs.declared.Kind.the-variants.{InstructionWrite, DataWrite, StatusRead, DataRead}
+use Rattle.event.specs.Kind.{isRead, isStatus, alike}
+use Rattle.halves.specs.declared.Half.{Half}
+use Rattle.halves.specs.declared.LineCount.{LineCount}
+use Rattle.halves.specs.declared.LineCount.the-variants.{Eight, Four}
+use Rattle.halves.specs.Halves.{upper, lower, halfFits, heldBy, upperOf, isFirst, disagrees, completed, answered}
+use Rattle.halves.proofs.Waiting.{first-fits}
+use Rattle.controller.specs.declared.Controller.{Controller}
+use Rattle.controller.specs.declared.answer.Answer.{Answer}
+use Rattle.controller.specs.declared.answer.Answer.the-variants.{Done, FirstHalf, Busy, HalvesDisagree, NoSuchAddress, NotInRange}
+use Rattle.controller.specs.declared.effect.Effect.{Effect}
+use Rattle.controller.specs.declared.registers.Registers.{Registers}
+use Rattle.controller.specs.Answers.{Said, saying, refused, saidOf}
+use Rattle.controller.specs.Memory.{Change, byteAt, storeAt, displayAfter, characterAfter}
+use Rattle.controller.specs.Part.{placed, awaiting, counterStepped, with, waited, longest, inRange, freshRegisters, freshWith, switchedOn}
+use Rattle.controller.specs.Result.{Result, done, forgotten, leaving}
+use Rattle.controller.specs.Told.{Told, toldWith, addressed, carried, unchanged}
+use Rattle.controller.proofs.Ranged.{InRange, facts, test, unhalved}
+use Rattle.instructions.specs.declared.instruction.Instruction.{Instruction}
+use Rattle.instructions.specs.declared.instruction.Instruction.the-variants.{Nothing, Clear, Home, EntryMode, OnOff, Move, FunctionSet, SetCharacter, SetDisplay}
+use Rattle.instructions.specs.Instructions.{decode, moved, unlessChanged, rearranged, rowOf, obey}
+use Rattle.instructions.proofs.Decoded.{of-decoded}
+use Rattle.instructions.proofs.Rows.{ticks-fit, change-by-byte}
+use Rattle.step.specs.Data.{shiftAfter, writeData, readData, readStatus, readOf, statusOf, act}
+use Rattle.step.specs.Step.{firstHalf, secondHalf, onFour, onBus, refusedBusy, resultFor, stepped}
+use Rattle.step.proofs.Joined.{joined, bus-joined}
+use Rattle.bus.specs.declared.Outcome.{Outcome}
+use Rattle.bus.specs.Transfer.{told, transferOf, waitedTold, waitOf}
+use Rattle.bus.specs.Events.{toldBy, afterEvents, reached, waits, sum}
+use Rattle.bus.specs.Refusals.{byteOf, lacksAddress, transferRules, waitRules}
+use Rattle.bus.specs.Written.{Whole, ReachedWhole, byteIn, pointed, Wrote, WriteIsRead}
+use Rattle.bus.proofs.Outcomes.{of-step, of-transfer}
+use Rattle.bus.proofs.Range.{range-kept}
+use Rattle.bus.proofs.Free.{withBusy, waits-only-busy, transfer-steps, idle-free, eight-acts, four-acts}
+
+-- ---- the memories keep their lengths
+display-whole : (m : Change) (d : List ℕ) → length d ≡ 80 → length (displayAfter m d) ≡ 80
+unfolding displayAfter
+display-whole Change.Nothing d e = e
+display-whole Change.Clear d e = length-replicate 80 0x20
+display-whole (Change.OneCell c n) d e = length-set d (c .0) n ∙ e
+display-whole (Change.OneCharacter a n) d e = e
+
+character-whole : (m : Change) (d : List ℕ) → length d ≡ 64 → length (characterAfter m d) ≡ 64
+unfolding characterAfter
+character-whole Change.Nothing d e = e
+character-whole Change.Clear d e = e
+character-whole (Change.OneCell c n) d e = e
+character-whole (Change.OneCharacter a n) d e = length-set d (a .0) n ∙ e
+
+WholeAfter : Told → Type 0
+WholeAfter t = Whole (t .controller)
+
+event-whole : (e : Event) (c : Controller) → Whole c → Whole (toldBy e c .controller)
+unfolding toldBy WholeAfter transferOf waitOf
+event-whole (Transfer k n) c w =
+    split WholeAfter (inRange (c .registers))
+    (λ t. record { display = display-whole _ (c .display) (w .display); character = character-whole _ (c .character) (w .character) })
+    (λ t. w)
+event-whole (Wait n) c w = split WholeAfter (inRange (c .registers)) (λ t. record { display = w .display; character = w .character }) (λ t. w)
+
+events-whole : (es : List Event) (c : Controller) → Whole c → Whole (afterEvents es c)
+unfolding afterEvents
+events-whole [] c w = w
+events-whole (e ∷ es) c w = events-whole es (toldBy e c .controller) (event-whole e c w)
+
+pub reached-whole : ReachedWhole
+unfolding switchedOn freshWith
+reached-whole past = events-whole past switchedOn (record { display = length-replicate 80 0x20; character = length-replicate 64 0 })
+
+-- ---- the byte stored
+stored-at : (lines : LineMode) (k : Counter) (n : ℕ) (d m : List ℕ) → T (hasCounter lines k) → length d ≡ 80 → length m ≡ 64
+    → byteAt lines k (displayAfter (storeAt lines k n) d) (characterAfter (storeAt lines k n) m) ≡ n
+unfolding byteAt storeAt displayAfter characterAfter hasCounter hasCharacter
+stored-at lines (Display a) n d m t e f = getD-set-same d (cellOf lines a .0) n 0 (subst⁻¹ (λ (x : ℕ). cellOf lines a .0 < x) e (cell-exists lines a t))
+stored-at lines (Character a) n d m t e f = getD-set-same m (a .0) n 0 (subst⁻¹ (λ (x : ℕ). a .0 < x) f (below (leb→le (a .0) 0x3F t)))
+  where
+    below : a .0 ≤ 0x3F → a .0 < 64
+    below h = omega arith
+
+-- ---- a data write that is done
+module _ (c : Controller) (n : ℕ) where
+  IsWrite : Told → Type 0
+  IsWrite t = t .said .number ≡ 0 → T (inRange (c .registers)) × (t ≡ carried c (writeData (c .registers) (byteOf (c .registers) n)))
+
+  is-write : IsWrite (transferOf c DataWrite n)
+  unfolding IsWrite act firstHalf
+  is-write =
+      of-transfer IsWrite c DataWrite n
+      (λ t. of-step (λ s. IsWrite (carried c s)) (c .registers) DataWrite n (addressed c)
+      (λ e. absurd (omega (arith, e)))
+      (λ v e. (t, refl))
+      (λ v u e. absurd (omega (arith, e)))
+      (λ e. absurd (omega (arith, e))))
+      (λ e. absurd (omega (arith, e)))
+
+-- ---- a data read of a part that is free, and where no half waits
+module _ (c : Controller) (t : T (inRange (c .registers))) (free : c .registers .busy ≡ 0) (no-half : c .registers .half ≡ Half.Nothing) where
+  reads-on-eight : (n : ℕ) → c .registers .bus ≡ Eight → transferOf c DataRead n .said ≡ saying 0 (addressed c)
+  unfolding act readData readOf
+  reads-on-eight n e =
+      ap (λ (x : Told). x .said) (transfer-steps c DataRead n t)
+      ∙ ap (λ (s : Result). s .said) (eight-acts (c .registers) DataRead n (addressed c) (idle-free (c .registers) DataRead free) e)
+
+  -- the first half waits
+  halfway : Controller
+  halfway = with (c .display) (c .character) (awaiting (c .registers) (Half.Waiting DataRead 0) (c .registers .busy))
+
+  first-read : (n : ℕ) → c .registers .bus ≡ Four
+      → transferOf c DataRead n ≡ record { said = saying 20 (upper (addressed c) * 16); controller = halfway }
+  unfolding halfway onFour firstHalf readOf displayAfter characterAfter
+  first-read n e =
+      transfer-steps c DataRead n t
+      ∙ ap (carried c) (four-acts (c .registers) DataRead n (addressed c) (idle-free (c .registers) DataRead free) Half.Nothing e no-half)
+
+  second-read : (n : ℕ) → c .registers .bus ≡ Four → transferOf halfway DataRead n .said ≡ saying 0 (lower (addressed c) * 16)
+  unfolding halfway onFour secondHalf act readData readOf answered toldBy
+  second-read n e =
+      let u : T (inRange (halfway .registers)) = subst (λ (x : Told). T (inRange (x .controller .registers))) (first-read 0 e) (range-kept (Transfer DataRead 0) c t) in
+      ap (λ (x : Told). x .said) (transfer-steps halfway DataRead n u)
+      ∙ ap (λ (s : Result). s .said)
+      (four-acts (halfway .registers) DataRead n (addressed halfway) (idle-free (halfway .registers) DataRead free) (Half.Waiting DataRead 0) e refl)
