@@ -6,10 +6,10 @@ use mathlib.Core.List.{List}
 use lib.Dec.{eqb}
 use lib.ListN.{length}
 use lib.Seq.{drop-append-seam}
+use Rattle.lent.specs.Buffer.{over, unlessRefused}
 use Rattle.controller.specs.declared.Controller.{Controller}
+use Rattle.dots.specs.declared.phase.Phase.{Phase}
 use Rattle.picture.specs.declared.Answer.{Answer}
-use Rattle.picture.specs.declared.Phase.{Phase}
-use Rattle.picture.specs.Table.{over}
 use Rattle.picture.specs.Picture.{pictureOf}
 use Rattle.picture.specs.Answers.{numberOf, answerFor, bufferFor, Pictured}
 
@@ -24,7 +24,7 @@ module _ (c : Controller) (digits : ℕ) (rom : List ℕ) (phase : Phase) (out o
   answered-again = q .number ∙ ap (answerFor c digits (length rom)) e ∙ sym (p .number)
 
   pub drawn-again : twice ≡ once
-  unfolding bufferFor
+  unfolding bufferFor unlessRefused
   drawn-again =
       rw (e, p .buffer) at (q .buffer)
       ∙ written-again (eqb (answerFor c digits (length rom) (length out)) 0) (pictureOf c digits rom phase) out
