@@ -62,7 +62,7 @@ use Rattle.bus.proofs.Free.{withBusy, waits-only-busy, transfer-steps, 
 display-whole : (m : Change) (d : List ℕ) → length d ≡ 80 → length (displayAfter m d) ≡ 80
 unfolding displayAfter
 display-whole Change.Nothing d e = e
-display-whole Change.Clear d e = length-replicate 80 0x20
+display-whole Change.Clear d e = length-replicate {A = ℕ} 80 0x20
 display-whole (Change.OneCell c n) d e = length-set d (c .0) n ∙ e
 display-whole (Change.OneCharacter a n) d e = e
 
@@ -91,7 +91,7 @@ events-whole (e ∷ es) c w = events-whole es (toldBy e c .controller) (event-wh
 
 pub reached-whole : ReachedWhole
 unfolding switchedOn freshWith
-reached-whole past = events-whole past switchedOn (record { display = length-replicate 80 0x20; character = length-replicate 64 0 })
+reached-whole past = events-whole past switchedOn (record { display = length-replicate {A = ℕ} 80 0x20; character = length-replicate {A = ℕ} 64 0 })
 
 -- ---- the byte stored
 stored-at : (lines : LineMode) (k : Counter) (n : ℕ) (d m : List ℕ) → T (hasCounter lines k) → length d ≡ 80 → length m ≡ 64
@@ -145,3 +145,60 @@ module _ (c : Controller) (t : T (inRange (c .registers))) (free : c .registers 
       ap (λ (x : Told). x .said) (transfer-steps halfway DataRead n u)
       ∙ ap (λ (s : Result). s .said)
       (four-acts (halfway .registers) DataRead n (addressed halfway) (idle-free (halfway .registers) DataRead free) (Half.Waiting DataRead 0) e refl)
+
+-- ---- the part that such a write leaves
+module _ (c : Controller) (n : ℕ) (w : Whole c) (t : T (inRange (c .registers))) where
+  abbrev k : Counter
+  k = c .registers .counter
+
+  abbrev left : Controller
+  left = carried c (writeData (c .registers) (byteOf (c .registers) n)) .controller
+
+  is-stored : byteIn left k ≡ byteOf (c .registers) n
+  unfolding writeData
+  is-stored = stored-at (c .registers .mode .lines) k (byteOf (c .registers) n) (c .display) (c .character) (facts (c .registers) t .counter) (w .display) (w .character)
+
+  -- at that address again, once it is free
+  again : Controller
+  again = withBusy (pointed k left) 0
+
+  module _ (u : T (inRange (left .registers))) where
+    pointed-in-range : (busy : ℕ) → busy ≤ longest → T (inRange (withBusy (pointed k left) busy .registers))
+    unfolding writeData halfFits
+    pointed-in-range busy h =
+        test (withBusy (pointed k left) busy .registers)
+        (record { counter = facts (c .registers) t .counter; shift = facts (left .registers) u .shift; half = tt; busy = h })
+
+    waited-for : (ns : List ℕ) → waits ns (pointed k left) .registers .busy ≡ 0 → waits ns (pointed k left) ≡ again
+    unfolding again writeData
+    waited-for ns z = waits-only-busy ns (pointed k left) (pointed-in-range 10 (lit≤ tt)) ∙ ap (withBusy (pointed k left)) z
+
+    again-in-range : T (inRange (again .registers))
+    unfolding again
+    again-in-range = pointed-in-range 0 (lit≤ tt)
+
+    is-read : Wrote c n left
+    unfolding again writeData
+    is-read = record {
+      stored = is-stored;
+      read-on-eight = λ ns m z e.
+          ap (λ (x : Controller). transferOf x DataRead m .said) (waited-for ns z)
+          ∙ reads-on-eight again again-in-range refl refl m e
+          ∙ ap (saying 0) is-stored;
+      read-on-four = λ ns m m′ z e. (
+        ap (λ (x : Controller). transferOf x DataRead m .said) (waited-for ns z)
+        ∙ ap (λ (x : Told). x .said) (first-read again again-in-range refl refl m e)
+        ∙ ap (λ (v : ℕ). saying 20 (upper v * 16)) is-stored,
+        ap (λ (x : Controller). transferOf (transferOf x DataRead m .controller) DataRead m′ .said) (waited-for ns z)
+        ∙ ap (λ (x : Told). transferOf (x .controller) DataRead m′ .said) (first-read again again-in-range refl refl m e)
+        ∙ second-read again again-in-range refl refl m′ e
+        ∙ ap (λ (v : ℕ). saying 0 (lower v * 16)) is-stored,
+      );
+    }
+
+pub write-is-read : WriteIsRead
+unfolding IsWrite toldBy
+write-is-read c n w e =
+    let found = is-write c n e in
+    let u = subst (λ (x : Told). T (inRange (x .controller .registers))) (found .1) (range-kept (Transfer DataWrite n) c (found .0)) in
+    subst⁻¹ (λ (x : Told). Wrote c n (x .controller)) (found .1) (is-read c n w (found .0) u)

@@ -52,7 +52,7 @@ use Rattle.step.proofs.Joined.{joined, bus-joined}
 use Rattle.bus.specs.Transfer.{told, transferOf, waitedTold, waitOf}
 use Rattle.bus.specs.Events.{toldBy, afterEvents, reached, waits, sum}
 use Rattle.controller.specs.declared.registers.Mode.{Mode}
-use Rattle.bus.proofs.Free.{freed, withBusy, waits-only-busy, transfer-steps, on-eight, first-waits, second-completes, other-disagrees}
+use Rattle.bus.proofs.Free.{transfer-steps, four-acts}
 use Rattle.bus.proofs.Range.{step-in-range, range-kept, fresh-in-range, reached-in-range}
 use Rattle.bus.proofs.Busy.{waited-told}
 use Rattle.restart.specs.Writes.{halves, Write, toldOf, Given, after, AtEach, patiently, patient, FourLines, lowerFrom, lowerLines, restartOf}
@@ -70,15 +70,6 @@ status-free : (r : Registers) → refusedBusy r StatusRead ≡ false
 unfolding refusedBusy
 status-free r = and-false (not (eqb (r .busy) 0))
 
--- on four lines, by the half that waits
-status-steps : (r : Registers) (h : Half) (n b : ℕ) → r .bus ≡ Four → r .half ≡ h
-    → resultFor r StatusRead n b ≡ onFour h StatusRead r n (readOf StatusRead r b)
-unfolding resultFor onBus
-status-steps r h n b e f =
-    ap (λ (x : Bool). cond x (leaving 1 r) (onBus (r .bus) StatusRead r n (readOf StatusRead r b))) (status-free r)
-    ∙ ap (λ (x : LineCount). onBus x StatusRead r n (readOf StatusRead r b)) e
-    ∙ ap (λ (x : Half). onFour x StatusRead r n (readOf StatusRead r b)) f
-
 -- ---- a poll: a status read as two like halves
 halfway : Controller → Controller
 halfway c = with (c .display) (c .character) (awaiting (c .registers) (Half.Waiting StatusRead 0) (c .registers .busy))
@@ -88,7 +79,7 @@ module _ (c : Controller) (t : T (inRange (c .registers))) (calm : Calm (c .regi
   unfolding halfway onFour firstHalf displayAfter characterAfter
   first-poll n =
       ap (λ (x : Told). x .controller) (transfer-steps c StatusRead n t)
-      ∙ ap (λ (s : Result). carried c s .controller) (status-steps (c .registers) Half.Nothing n (addressed c) (calm .four) (calm .no-half))
+      ∙ ap (λ (s : Result). carried c s .controller) (four-acts (c .registers) StatusRead n (addressed c) (status-free (c .registers)) Half.Nothing (calm .four) (calm .no-half))
 
   halfway-in-range : T (inRange (halfway c .registers))
   unfolding toldBy
@@ -99,7 +90,7 @@ module _ (c : Controller) (t : T (inRange (c .registers))) (calm : Calm (c .regi
   second-poll n =
       ap (λ (x : Told). x .controller) (transfer-steps (halfway c) StatusRead n halfway-in-range)
       ∙ ap (λ (s : Result). carried (halfway c) s .controller)
-      (status-steps (halfway c .registers) (Half.Waiting StatusRead 0) n (addressed (halfway c)) (calm .four) refl)
+      (four-acts (halfway c .registers) StatusRead n (addressed (halfway c)) (status-free (halfway c .registers)) (Half.Waiting StatusRead 0) (calm .four) refl)
       ∙ ap (λ (h : Half). with (c .display) (c .character) (awaiting (c .registers) h (c .registers .busy))) (sym (calm .no-half))
 
   poll-changes-nothing : (n m : ℕ) → transferOf (transferOf c StatusRead n .controller) StatusRead m .controller ≡ c
