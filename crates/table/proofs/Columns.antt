@@ -6,16 +6,19 @@ use native.Mathlib.Numerals.{add-one}
 use native.Mathlib.Omega.{arith}
 use lib.ListN.{length, drop, getD, length-append, drop-of-length-le}
 use lib.Seq.{drop-cons}
+use Rattle.event.specs.declared.Event.{Event}
+use Rattle.event.specs.declared.Event.the-variants.{Transfer, Wait}
+use Rattle.event.specs.declared.Kind.{Kind}
+use Rattle.event.specs.declared.Kind.the-variants.{InstructionWrite, DataWrite, StatusRead, DataRead}
+use Rattle.event.specs.Kind.{numberOn}
 use Rattle.controller.specs.declared.answer.Answer.{Answer}
 use Rattle.controller.specs.declared.answer.Answer.the-variants.{Done, FirstHalf, Busy, HalvesDisagree, NoSuchAddress, NotInRange}
-use Rattle.controller.specs.Answers.{numberOf}
-use Rattle.record.specs.declared.events.Event.{Event}
-use Rattle.record.specs.declared.events.Event.the-variants.{InstructionWrite, DataWrite, StatusRead, DataRead, Wait}
+use Rattle.controller.specs.Answers.{saidOf}
 use Rattle.record.specs.Event.{rawOf}
 use Rattle.lent.specs.Put.{Puts}
 use Rattle.text.specs.Text.{decimalOf, textOf}
-use Rattle.table.specs.Table.{spaced, lineOf}
-use Rattle.table.specs.Tabled.{Narrow}
+use Rattle.table.specs.Contracts.{Narrow}
+use Rattle.table.specs.Table.{spaced, lineOf, lineBytes}
 use Rattle.text.proofs.Decimal.{digits-below}
 use Rattle.lent.proofs.Placed.{Awaits, puts-then, awaits-none, awaits-room, awaits-more}
 
@@ -48,14 +51,14 @@ module _ (number kind value answer read : ℕ) (w : Narrow number kind value ans
   abbrev columns : List ℕ
   columns = spaced (number ∷ kind ∷ value ∷ answer ∷ [])
 
-  -- they and the byte behind each are at most 20 bytes
-  sizes : length columns + length (decimalOf read) < 20
+  -- they and the byte behind each are no more than a line has
+  sizes : length columns + length (decimalOf read) < lineBytes
   unfolding spaced
   sizes =
       simp length-append
       (omega (arith, digits-below 3 number (w .four), digits-below 0 kind (w .one), digits-below 4 value (w .five), digits-below 1 answer (w .two), digits-below 2 read (w .three)))
 
-  module _ (place : ℕ) (out : List ℕ) (room : place + 20 ≤ length out) where
+  module _ (place : ℕ) (out : List ℕ) (room : place + lineBytes ≤ length out) where
     pub columns-room : place + length columns ≤ length out
     columns-room = omega (arith, sizes)
 
@@ -63,21 +66,24 @@ module _ (number kind value answer read : ℕ) (w : Narrow number kind value ans
       pub read-room : length mid ≡ length out → next + length (decimalOf read) < length mid
       read-room long = omega (arith, sizes, p .next)
 
-      pub line-put : (end : ℕ) (left : List ℕ) → Puts (decimalOf read ++ textOf "\n") next mid end left → Puts (lineOf number kind value answer read) place out end left × (end ≤ place + 20)
+      pub line-put : (end : ℕ) (left : List ℕ) → Puts (decimalOf read ++ textOf "\n") next mid end left → Puts (lineOf number kind value answer read) place out end left × (end ≤ place + lineBytes)
       unfolding lineOf
       line-put end left q =
           (puts-then place next end columns (decimalOf read ++ textOf "\n") out mid left (omega arith) p q, omega (arith, sizes, p .next, q .next, length-append (decimalOf read) (textOf "\n")))
 
 -- the kind of an event is one digit
+kind-number-short : (kind : Kind) → numberOn kind < 10
+kind-number-short InstructionWrite = omega arith
+kind-number-short DataWrite = omega arith
+kind-number-short StatusRead = omega arith
+kind-number-short DataRead = omega arith
+
 pub kind-short : (event : Event) → rawOf event .kind < 10
-kind-short (InstructionWrite value) = omega arith
-kind-short (DataWrite value) = omega arith
-kind-short StatusRead = omega arith
-kind-short DataRead = omega arith
+kind-short (Transfer kind value) = kind-number-short kind
 kind-short (Wait value) = omega arith
 
 -- the number of an answer is at most two
-pub number-short : (answer : Answer) → numberOf answer < 100
+pub number-short : (answer : Answer) → saidOf answer .number < 100
 number-short (Done value) = omega arith
 number-short (FirstHalf value) = omega arith
 number-short Busy = omega arith

@@ -1,21 +1,13 @@
 -- The paper's example holds, by computation.
 use mathlib.Core.Path.{refl}
-use Rattle.counters.specs.Address.{hasDisplay, cellOf, hasCharacter, upDisplay, downDisplay, upCharacter, downCharacter}
-use Rattle.counters.specs.Counter.{hasCounter, stepOf as counterStep, numberOn}
-use Rattle.counters.specs.Shift.{lastShift, hasShift, leftOf, rightOf, moveOf}
-use Rattle.controller.specs.Part.{isFour, halfFits, inRange, freshRegisters, freshWith, switchedOn, waited}
-use Rattle.controller.specs.Instructions.{bit, decode, moved, counterFor, shiftFor, rearranged, effectOf, changeOf, ticksOf, lacking, obey}
-use Rattle.bus.specs.Memory.{byteAt, storeAt, displayAfter, characterAfter}
-use Rattle.bus.specs.Data.{shiftAfter, writeData, readData, readStatus, readOf, act}
-use Rattle.bus.specs.Halves.{firstHalf, secondHalf, onFour, onBus}
-use Rattle.bus.specs.Transfer.{refusedBusy, stepOf, transferOf, waitOf}
-use Rattle.bus.specs.Events.{toldBy}
+use Rattle.condition.specs.First.{firstOf}
+use Rattle.bus.specs.Rules.{rules}
 use Rattle.record.specs.Event.{eventOf}
-use Rattle.record.specs.Record.{runIn, eventsIn, eventsOf, anyIllFormed, badEvents, checkOf}
+use Rattle.record.specs.Record.{frontEvents, eventsIn, eventsOf, anyIllFormed, badEvents, checkOf}
 use Rattle.text.specs.Text.{digitsOf, decimalOf}
-use Rattle.table.specs.Table.{spaced, lineOf, linesOf, tableOf, printedOf}
+use Rattle.table.specs.Table.{spaced, lineOf, eventLines, tableOf, printedOf}
 use Rattle.table.specs.Theorems.{PaperExample}
 
 pub paper-example : PaperExample
-unfolding hasDisplay cellOf hasCharacter upDisplay downDisplay upCharacter downCharacter hasCounter counterStep numberOn lastShift hasShift leftOf rightOf moveOf isFour halfFits inRange freshRegisters freshWith switchedOn waited bit decode moved counterFor shiftFor rearranged effectOf changeOf ticksOf lacking obey byteAt storeAt displayAfter characterAfter shiftAfter writeData readData readStatus readOf act firstHalf secondHalf onFour onBus refusedBusy stepOf transferOf waitOf toldBy eventOf runIn eventsIn eventsOf anyIllFormed badEvents checkOf digitsOf decimalOf spaced lineOf linesOf tableOf printedOf
+unfolding rules firstOf eventOf frontEvents eventsIn eventsOf anyIllFormed badEvents checkOf digitsOf decimalOf spaced lineOf eventLines tableOf printedOf
 paper-example = refl

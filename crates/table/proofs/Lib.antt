@@ -2,4 +2,5 @@ pub mod Columns
 pub mod Turns
 pub mod Outcomes
 pub mod Settled
+pub mod Theorems
 pub mod Example

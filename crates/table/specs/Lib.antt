@@ -1,3 +1,4 @@
 pub mod Table
-pub mod Tabled
+pub mod Answers
+pub mod Contracts
 pub mod Theorems

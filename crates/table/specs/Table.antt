@@ -1,16 +1,15 @@
 -- "Bench record": what the bench program prints.
-use Prim.Native.Nat.{ℕ, _+_}
+use Prim.Native.Nat.{ℕ, _+_, _*_}
 use mathlib.Core.Bool.{cond}
 use mathlib.Core.List.{List, [], _∷_, _++_}
 use lib.Dec.{ltb, eqb}
 use lib.ListN.{length}
+use Rattle.event.specs.declared.Event.{Event}
 use Rattle.controller.specs.declared.Controller.{Controller}
-use Rattle.controller.specs.Part.{switchedOn}
 use Rattle.bus.specs.Events.{toldBy}
-use Rattle.record.specs.declared.events.Event.{Event}
 use Rattle.record.specs.Event.{rawOf}
-use Rattle.record.specs.Record.{eventsOf, checkOf}
-use Rattle.run.specs.Run.{eventOn}
+use Rattle.record.specs.Record.{mostEvents, mostBytes, eventsOf, checkOf}
+use Rattle.run.specs.Run.{startedFrom}
 use Rattle.text.specs.Text.{textOf, decimalOf, refusedOf}
 
 -- numbers in decimal, a space behind each
@@ -23,18 +22,31 @@ unfoldable pub lineOf : (number kind value answer read : ℕ) → List ℕ
 lineOf number kind value answer read = spaced (number ∷ kind ∷ value ∷ answer ∷ []) ++ (decimalOf read ++ textOf "\n")
 
 -- a line per event, each given to the part as the events before it leave it
-unfoldable pub linesOf : (number : ℕ) → List Event → Controller → List ℕ
-linesOf number [] c = []
-linesOf number (event ∷ events) c =
-    lineOf number (rawOf event .kind) (rawOf event .value) (toldBy (eventOn event) c .number) (toldBy (eventOn event) c .value)
-    ++ linesOf (number + 1) events (toldBy (eventOn event) c .controller)
+unfoldable pub eventLines : (number : ℕ) → List Event → Controller → List ℕ
+eventLines number [] c = []
+eventLines number (event ∷ events) c =
+    lineOf number (rawOf event .kind) (rawOf event .value) (toldBy event c .said .number) (toldBy event c .said .value)
+    ++ eventLines (number + 1) events (toldBy event c .controller)
 
 -- the heading, also for an empty record; then the lines, numbered from 1, from a part switched on
 unfoldable pub tableOf : List ℕ → List ℕ
-tableOf bytes = textOf "event kind value answer result\n" ++ linesOf 1 (eventsOf bytes) switchedOn
+tableOf bytes = textOf "event kind value answer result\n" ++ eventLines 1 (eventsOf bytes) startedFrom
 
 -- for more than 12,291 bytes it prints only `too long`, checked first
 unfoldable pub printedOf : List ℕ → List ℕ
 printedOf bytes =
-    cond (ltb 12291 (length bytes)) (textOf "too long\n")
+    cond (ltb mostBytes (length bytes)) (textOf "too long\n")
     (cond (eqb (checkOf bytes) 0) (tableOf bytes) (refusedOf (checkOf bytes)))
+
+-- ---- how long it can be
+
+-- numbers of at most 4, 1, 5, 2 and 3 digits, and a byte behind each
+abbrev pub lineBytes : ℕ
+lineBytes = 20
+
+abbrev pub headingBytes : ℕ
+headingBytes = 31
+
+-- the heading, and the lines of a record of 4,096 events
+abbrev pub mostText : ℕ
+mostText = headingBytes + lineBytes * mostEvents

@@ -1,20 +1,35 @@
--- What is proved of the text beside the promise.
+-- What is proved of the text beside the promises.
 use Prim.Native.Nat.{ℕ, _≤_}
 use mathlib.Core.List.{List, [], _∷_}
 use mathlib.Core.Path.{_≡_}
 use lib.ListN.{length, take}
-use Rattle.table.specs.declared.Tabled.{Tabled}
+use Rattle.condition.specs.First.{Exactly}
 use Rattle.text.specs.Text.{textOf}
+use Rattle.table.specs.declared.Answer.{Answer}
 use Rattle.table.specs.Table.{printedOf}
-use Rattle.table.specs.Tabled.{numberOf, sizeOf, Tabling}
+use Rattle.table.specs.Answers.{numberOf, valueOf, refusals, Tabling}
 
--- any two outcomes that the promise of `table` allows are equal
+-- ---- any two outcomes that a promise allows are equal
+
+abbrev pub NumberSettled : Type 0
+NumberSettled = (answer : Answer) (r r′ : ℕ) → r ≡ numberOf answer → r′ ≡ numberOf answer → r ≡ r′
+
+abbrev pub ValueSettled : Type 0
+ValueSettled = (answer : Answer) (r r′ : ℕ) → r ≡ valueOf answer → r′ ≡ valueOf answer → r ≡ r′
+
+-- answer and buffer
 abbrev pub TableSettled : Type 0
-TableSettled = (bytes out : List ℕ) (r r′ : Tabled) (left left′ : List ℕ) → Tabling bytes out r left → Tabling bytes out r′ left′ → (r ≡ r′) × (left ≡ left′)
+TableSettled = (bytes out : List ℕ) (r r′ : Answer) (left left′ : List ℕ) → Tabling bytes out r left → Tabling bytes out r′ left′ → (r ≡ r′) × (left ≡ left′)
+
+-- ---- the text in the buffer
+
+-- each number is given exactly when its rule says
+abbrev pub TableGivenExactly : Type 0
+TableGivenExactly = (bytes out : List ℕ) (r : Answer) (left : List ℕ) → Tabling bytes out r left → Exactly (numberOf r) (refusals out) 0
 
 -- the text is in the buffer, at its front
-abbrev pub TextInBuffer : Type 0
-TextInBuffer = (bytes out : List ℕ) (r : Tabled) (left : List ℕ) → Tabling bytes out r left → (sizeOf r ≤ length left) × (numberOf r ≡ 0 → take (sizeOf r) left ≡ printedOf bytes)
+abbrev pub AtTheFront : Type 0
+AtTheFront = (bytes out : List ℕ) (r : Answer) (left : List ℕ) → Tabling bytes out r left → (valueOf r ≤ length left) × (numberOf r ≡ 0 → take (valueOf r) left ≡ printedOf bytes)
 
 -- ---- the paper's example
 

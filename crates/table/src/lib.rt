@@ -1,26 +1,50 @@
 // The bench program's text for a record, as bytes in a lent buffer.
+ghost use mathlib.Core.Path.{_≡_};
+ghost use Rattle.table.specs.Answers.{numberOf, valueOf, Tabling};
+
 mod line;
 mod lines;
 mod printed;
 
-ghost use Rattle.table.specs.Tabled.{Tabling};
 use printed::put_printed;
 
-// Room for the heading of 31 bytes and the lines of 4,096 events.
-pub const MOST_BYTES: usize = 31 + line::LONGEST * record::MOST_EVENTS;
+// Room for the heading and the lines of 4,096 events.
+pub const MOST_BYTES: usize = printed::HEADING_BYTES + line::LINE_BYTES * record::MOST_EVENTS;
 
-pub enum Tabled {
+pub enum Answer {
     // How many bytes the text has.
     Done(usize),
     ShortBuffer,
 }
 
+impl Answer {
+    // This paper's number.
+    pub fn number(self) -> u8
+        ensures { λ r. ⌜ r ≡ numberOf self ⌝ }
+    {
+        match self {
+            Answer::Done(_) => 0,
+            Answer::ShortBuffer => 6,
+        }
+    }
+
+    // How many bytes the text has; 0 beside a refusal.
+    pub fn value(self) -> usize
+        ensures { λ r. ⌜ r ≡ valueOf self ⌝ }
+    {
+        match self {
+            Answer::Done(size) => size,
+            Answer::ShortBuffer => 0,
+        }
+    }
+}
+
 // `too long`, a refusal or the table; the bytes behind it stay. A buffer below MOST_BYTES is refused, whatever the record.
-pub fn table(bytes: &[u8], out: &mut [u8]) -> Tabled
+pub fn table(bytes: &[u8], out: &mut [u8]) -> Answer
     ensures { λ r. ⌜ Tabling (now (bytes .entry)) (now (out .entry)) r (now (out .exit)) ⌝ }
 {
     if out.len() < MOST_BYTES {
-        return Tabled::ShortBuffer;
+        return Answer::ShortBuffer;
     }
-    Tabled::Done(put_printed(bytes, out))
+    Answer::Done(put_printed(bytes, out))
 }

@@ -1,17 +1,18 @@
 // The line of one event.
-use controller::answer::Answer;
-use record::Event;
-use text::put_number;
 ghost use Prim.Native.Nat.{_+_, _≤_};
 ghost use lib.ListN.{length};
-ghost use Rattle.controller.specs.Answers.{numberOf, valueOf};
+ghost use Rattle.controller.specs.Answers.{saidOf};
 ghost use Rattle.record.specs.Event.{rawOf};
+ghost use Rattle.record.specs.Record.{mostEvents};
 ghost use Rattle.lent.specs.Put.{Puts};
-ghost use Rattle.table.specs.Table.{spaced, lineOf};
-ghost use Rattle.table.specs.Tabled.{Narrow};
+ghost use Rattle.table.specs.Contracts.{Narrow};
+ghost use Rattle.table.specs.Table.{spaced, lineOf, lineBytes};
+use controller::answer::Answer;
+use event::Event;
+use text::put_number;
 
 // A line's bytes: numbers of at most 4, 1, 5, 2 and 3 digits, and a byte behind each.
-pub(crate) const LONGEST: usize = 20;
+pub(crate) const LINE_BYTES: usize = 20;
 
 // A space behind each number.
 fn put_spaced(numbers: &[u16], place: usize, out: &mut [u8]) -> usize
@@ -36,8 +37,8 @@ fn put_line(
     place: usize,
     out: &mut [u8],
 ) -> usize
-    requires { ⌜ Narrow number kind value answer read × (place + 20 ≤ length (now out)) ⌝ }
-    ensures { λ r. ⌜ Puts (lineOf number kind value answer read) place (now (out .entry)) r (now (out .exit)) × (r ≤ place + 20) ⌝ }
+    requires { ⌜ Narrow number kind value answer read × (place + lineBytes ≤ length (now out)) ⌝ }
+    ensures { λ r. ⌜ Puts (lineOf number kind value answer read) place (now (out .entry)) r (now (out .exit)) × (r ≤ place + lineBytes) ⌝ }
 {
     let columns = [number, kind as u16, value, answer as u16];
     let next = put_spaced(&columns, place, out);
@@ -51,8 +52,8 @@ pub(crate) fn put_event(
     place: usize,
     out: &mut [u8],
 ) -> usize
-    requires { ⌜ (number ≤ 4096) × (place + 20 ≤ length (now out)) ⌝ }
-    ensures { λ r. ⌜ Puts (lineOf number (rawOf event .kind) (rawOf event .value) (numberOf answer) (valueOf answer)) place (now (out .entry)) r (now (out .exit)) × (r ≤ place + 20) ⌝ }
+    requires { ⌜ (number ≤ mostEvents) × (place + lineBytes ≤ length (now out)) ⌝ }
+    ensures { λ r. ⌜ Puts (lineOf number (rawOf event .kind) (rawOf event .value) (saidOf answer .number) (saidOf answer .value)) place (now (out .entry)) r (now (out .exit)) × (r ≤ place + lineBytes) ⌝ }
 {
     let raw = record::raw_of(event);
     put_line(

@@ -1,16 +1,18 @@
 // The whole text that the bench program prints.
-use crate::lines::put_lines;
-use text::put_refused;
-use text::put_text;
 ghost use mathlib.Core.Path.{_≡_};
 ghost use Prim.Native.Nat.{_≤_};
 ghost use lib.ListN.{length};
-ghost use Rattle.record.specs.Record.{checkOf};
+ghost use Rattle.record.specs.Record.{mostBytes, checkOf};
 ghost use Rattle.lent.specs.Put.{Puts};
-ghost use Rattle.table.specs.Table.{tableOf, printedOf};
+ghost use Rattle.table.specs.Table.{tableOf, printedOf, mostText};
+use super::lines::put_lines;
+use text::put_refused;
+use text::put_text;
+
+pub(crate) const HEADING_BYTES: usize = 31;
 
 fn put_table(bytes: &[u8], out: &mut [u8]) -> usize
-    requires { ⌜ (checkOf (now bytes) ≡ 0) × (length (now bytes) ≤ 12291) × (81951 ≤ length (now out)) ⌝ }
+    requires { ⌜ (checkOf (now bytes) ≡ 0) × (length (now bytes) ≤ mostBytes) × (mostText ≤ length (now out)) ⌝ }
     ensures { λ r. ⌜ Puts (tableOf (now (bytes .entry))) 0 (now (out .entry)) r (now (out .exit)) ⌝ }
 {
     let next = put_text(b"event kind value answer result\n", 0, out);
@@ -18,13 +20,13 @@ fn put_table(bytes: &[u8], out: &mut [u8]) -> usize
 }
 
 pub(crate) fn put_printed(bytes: &[u8], out: &mut [u8]) -> usize
-    requires { ⌜ 81951 ≤ length (now out) ⌝ }
+    requires { ⌜ mostText ≤ length (now out) ⌝ }
     ensures { λ r. ⌜ Puts (printedOf (now (bytes .entry))) 0 (now (out .entry)) r (now (out .exit)) ⌝ }
 {
     if record::MOST_BYTES < bytes.len() {
         return put_text(b"too long\n", 0, out);
     }
-    let refused = record::number(record::check(bytes));
+    let refused = record::check(bytes).number();
     if refused != 0 {
         return put_refused(refused, out);
     }

@@ -1,9 +1,8 @@
--- `main` ends safely: the text lies within its buffer.
-use borrow.Author.Needs.{needs}
-use mathlib.Core.Path.{sym, ap}
+-- The text lies within its buffer, by the table's theorem.
+use mathlib.Core.Path.{sym}
 use lib.Seq.{length-take-le}
-use Rattle.table.specs.Tabled.{sizeOf}
-use Rattle.table.proofs.Settled.{text-in-buffer}
+use borrow.Author.Needs.{needs}
+use Rattle.table.proofs.Theorems.{at-the-front}
 use Rattle.bench.proofs.main.Statement.{statement}
 use Rattle.bench.proofs.main.Tie as tie
 
@@ -25,26 +24,20 @@ slice-aggregate-table-2 c = search needs
 table-requires : tie.Need-table-requires
 table-requires c κs = search needs
 
-enum-known-size : tie.Need-enum-known-size
-enum-known-size c = search needs
+value-requires : tie.Need-value-requires
+value-requires c κs = search needs
 
 array-share-prefix-text : tie.Need-array-share-prefix-text
-array-share-prefix-text c = rw (ap sizeOf (c .before .size .given .1)) at (text-in-buffer _ _ _ _ (c .before .before .before .before .table .ensures) .0)
+array-share-prefix-text c = rw (c .value .ensures) (at-the-front _ _ _ _ (c .before .before .table .ensures) .0)
 
 slice-aggregate-write-all : tie.Need-slice-aggregate-write-all
-slice-aggregate-write-all c = sym (length-take-le _ _ (rw (ap sizeOf (c .before .before .size .given .1)) at (text-in-buffer _ _ _ _ (c .before .before .before .before .before .table .ensures) .0)))
+slice-aggregate-write-all c = sym (length-take-le _ _ (array-share-prefix-text (c .before)))
 
 write-all-requires : tie.Need-write-all-requires
 write-all-requires c κs = search needs
 
-enum-told : tie.Need-enum-told
-enum-told c = search needs
-
 returns : tie.Need-returns
 returns c = search needs
-
-returns-2 : tie.Need-returns-2
-returns-2 c = search needs
 
 pub main-spec : {M : Type 1} → statement M
 main-spec =
@@ -56,10 +49,8 @@ main-spec =
     slice-aggregate-table
     slice-aggregate-table-2
     table-requires
-    enum-known-size
+    value-requires
     array-share-prefix-text
     slice-aggregate-write-all
     write-all-requires
-    enum-told
-    returns
-    returns-2)
+    returns)

@@ -1,4 +1,4 @@
--- `table` meets its contract.
+-- The buffer's length decides the one refusal.
 use borrow.Author.Needs.{needs}
 use Rattle.table.proofs.Outcomes.{table-short, table-done}
 use Rattle.table.proofs.table.Statement.{statement}

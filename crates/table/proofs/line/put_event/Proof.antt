@@ -1,4 +1,4 @@
--- `put_event` meets its contract.
+-- The columns of an event and its answer are narrow enough for a line.
 use borrow.Author.Needs.{needs}
 use native.Mathlib.Omega.{arith}
 use Rattle.table.proofs.Columns.{kind-short, number-short}
@@ -15,13 +15,27 @@ value-requires : tie.Need-value-requires
 value-requires c κs = search needs
 
 put-line-requires : tie.Need-put-line-requires
-put-line-requires c κs = (record { four = omega arith; one = rw (c .before .before .before .raw-of .ensures) (kind-short (c .before .before .before .before .before .args .event)); five = omega arith; two = rw (c .before .before .number .ensures) (number-short (c .before .before .before .before .before .args .answer)); three = omega arith }, omega arith)
+put-line-requires c κs =
+    let raw = c .before .before .before in
+    let start = raw .before .before in (
+      record {
+        four = omega arith;
+        one = rw (raw .raw-of .ensures) (kind-short (start .args .event));
+        five = omega arith;
+        two = rw (c .before .before .number .ensures) (number-short (start .args .answer));
+        three = omega arith;
+      },
+      omega arith,
+    )
 
 same-length : tie.Need-same-length
 same-length c = search needs
 
 returns : tie.Need-returns
-returns c = rw (c .before .before .before .before .before .before .raw-of .ensures, c .before .before .before .before .before .number .ensures, c .before .before .before .before .value .ensures) at (c .before .before .put-line .ensures)
+returns c =
+    let line = c .before .before in
+    let value = line .before .before in
+    rw (value .before .before .raw-of .ensures, value .before .number .ensures, value .value .ensures) at (line .put-line .ensures)
 
 pub put-event-spec : {M : Type 1} → statement M
 put-event-spec =

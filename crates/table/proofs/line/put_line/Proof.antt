@@ -1,4 +1,4 @@
--- `put_line` meets its contract.
+-- The four columns are put, then the value read; a line has room for both.
 use borrow.Author.Needs.{needs}
 use native.Mathlib.Omega.{arith}
 use denote.Ref.{now}
@@ -10,16 +10,25 @@ slice-aggregate-put-spaced : tie.Need-slice-aggregate-put-spaced
 slice-aggregate-put-spaced c = search needs
 
 put-spaced-requires : tie.Need-put-spaced-requires
-put-spaced-requires c κs = columns-room _ _ _ _ _ (c .before .before .before .pre .0) _ (now (c .before .before .before .args .out)) (c .before .before .before .pre .1)
+put-spaced-requires c κs =
+    let start = c .before .before .before in
+    columns-room _ _ _ _ _ (start .pre .0) _ (now (start .args .out)) (start .pre .1)
 
 put-number-requires : tie.Need-put-number-requires
-put-number-requires c κs = read-room _ _ _ _ _ (c .before .before .before .before .before .before .before .pre .0) _ (now (c .before .before .before .before .before .before .before .args .out)) (c .before .before .before .before .before .before .before .pre .1) _ _ (c .before .before .before .put-spaced .ensures) (omega arith)
+put-number-requires c κs =
+    let spaced = c .before .before .before in
+    let start = spaced .before .before .before .before in
+    read-room _ _ _ _ _ (start .pre .0) _ (now (start .args .out)) (start .pre .1) _ _ (spaced .put-spaced .ensures) (omega arith)
 
 same-length : tie.Need-same-length
 same-length c = search needs
 
 returns : tie.Need-returns
-returns c = line-put _ _ _ _ _ (c .before .before .before .before .before .before .before .before .before .before .pre .0) _ _ (c .before .before .before .before .before .before .before .before .before .before .pre .1) _ _ (c .before .before .before .before .before .before .put-spaced .ensures) _ _ (c .before .before .put-number .ensures)
+returns c =
+    let number = c .before .before in
+    let spaced = number .before .before .before .before in
+    let start = spaced .before .before .before .before in
+    line-put _ _ _ _ _ (start .pre .0) _ _ (start .pre .1) _ _ (spaced .put-spaced .ensures) _ _ (number .put-number .ensures)
 
 pub put-line-spec : {M : Type 1} → statement M
 put-line-spec =

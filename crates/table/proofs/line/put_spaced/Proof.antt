@@ -1,4 +1,4 @@
--- `put_spaced` meets its contract. The invariant: the numbers from i on are still to be put.
+-- The invariant: the numbers from i on are still to be put.
 use Prim.Native.Nat.{_-_, _≤_}
 use mathlib.Core.Path.{_≡_, refl}
 use native.Mathlib.Omega.{arith}
@@ -34,7 +34,11 @@ loop-less : tie.Need-loop-less Inv-loop μ-loop
 loop-less c = omega arith
 
 loop-again : tie.Need-loop-again Inv-loop μ-loop
-loop-again c = (omega arith, spaced-turn _ _ _ _ _ _ (c .before .before .before .before .before .loop-test .taken) (omega arith) (c .before .before .before .before .before .before .loop .inv .1) _ _ (c .before .before .put-number .ensures), omega arith)
+loop-again c =
+    let number = c .before .before in
+    let tested = number .before .before .before in
+    let turned = spaced-turn _ _ _ _ _ _ (tested .loop-test .taken) (omega arith) (tested .before .loop .inv .1) _ _ (number .put-number .ensures) in
+    (omega arith, turned, omega arith)
 
 same-length : tie.Need-same-length Inv-loop μ-loop
 same-length c = c .before .loop .inv .2

@@ -1,42 +1,46 @@
--- `put_lines` meets its contract. The invariant: the lines of the events from a place on are still to be put.
+-- The invariant: the registers are in range, each line so far had its room, and the lines of the events from a place on are still to be put.
 use Prim.Native.Nat.{_+_, _*_, _-_, _≤_}
 use mathlib.Core.Path.{_≡_, refl, ap, _∙_}
 use mathlib.Core.Bool.{true}
-use mathlib.Core.List.{[]}
 use native.Mathlib.Omega.{arith}
 use borrow.Author.Needs.{needs}
 use lib.ListN.{length, drop}
 use Rattle.condition.proofs.Tests.{is-true}
 use Rattle.controller.specs.declared.Controller.{Controller}
-use Rattle.controller.specs.Part.{inRange, switchedOn}
-use Rattle.bus.specs.Transfer.{with}
-use Rattle.bus.specs.Events.{run}
-use Rattle.bus.proofs.Range.{reached-in-range}
-use Rattle.record.specs.Record.{runIn, eventsOf}
+use Rattle.controller.specs.Part.{inRange, with}
+use Rattle.record.specs.Record.{mostEvents, mostBytes, frontEvents, eventsOf}
 use Rattle.record.proofs.InTurn.{found-first, none-left, none-behind}
-use Rattle.table.specs.Table.{linesOf}
+use Rattle.run.specs.Run.{startedFrom}
+use Rattle.run.proofs.InRange.{started-in-range}
 use Rattle.lent.proofs.Placed.{Awaits}
+use Rattle.table.specs.Table.{eventLines, lineBytes}
 use Rattle.table.proofs.Turns.{lines-start, lines-turn, lines-end}
 use Rattle.table.proofs.lines.put_lines.Statement.{statement}
 use Rattle.table.proofs.lines.put_lines.Tie as tie
 
 abbrev Inv-loop : tie.InvT-loop
 Inv-loop bytes place out₀ display₀ character₀ registers₀ number₀ from₀ next₀ out display character registers number from next =
-    (length bytes ≤ 12291) × (1 ≤ number) × (from ≡ number * 3) × (inRange registers ≡ true) × (length out ≡ length out₀) × (next + 4097 * 20 ≤ length out + number * 20)
-    × Awaits (linesOf number (runIn (drop from bytes)) (with display character registers)) next out (linesOf 1 (eventsOf bytes) switchedOn) place out₀
+    (length bytes ≤ mostBytes)
+    × (1 ≤ number)
+    × (from ≡ number * 3)
+    × (inRange registers ≡ true)
+    × (length out ≡ length out₀)
+    × (next + lineBytes * (mostEvents + 1) ≤ length out + lineBytes * number)
+    × Awaits (eventLines number (frontEvents (drop from bytes)) (with display character registers)) next out (eventLines 1 (eventsOf bytes) startedFrom) place out₀
 
 abbrev μ-loop : tie.MeasureT-loop
 μ-loop bytes place out₀ display₀ character₀ registers₀ number₀ from₀ next₀ out display character registers number from next =
     length bytes - from
 
-switched-on-requires : tie.Need-switched-on-requires Inv-loop μ-loop
-switched-on-requires c κs = search needs
+started-requires : tie.Need-started-requires Inv-loop μ-loop
+started-requires c κs = search needs
 
 loop-holds : tie.Need-loop-holds Inv-loop μ-loop
-unfolding run
 loop-holds c =
-    let on = c .before .before .before .switched-on .ensures in
-    (omega arith, omega arith, refl, ap (λ (x : Controller). inRange (x .registers)) on ∙ is-true _ (reached-in-range []), refl, omega arith, lines-start _ _ _ _ (c .before .before .before .before .before .before .pre .0) on)
+    let part = c .before .before .before in
+    let on = part .started .ensures in
+    let in-range = ap (λ (x : Controller). inRange (x .registers)) on ∙ is-true _ started-in-range in
+    (omega arith, omega arith, refl, in-range, refl, omega arith, lines-start _ _ _ _ (part .before .before .before .pre .0) on)
 
 three-at-requires : tie.Need-three-at-requires Inv-loop μ-loop
 three-at-requires c κs = search needs
@@ -44,11 +48,10 @@ three-at-requires c κs = search needs
 enum-known-event : tie.Need-enum-known-event Inv-loop μ-loop
 enum-known-event c = search needs
 
-event-on-requires : tie.Need-event-on-requires Inv-loop μ-loop
-event-on-requires c κs = search needs
-
 turn-requires : tie.Need-turn-requires Inv-loop μ-loop
-turn-requires c κs = c .before .before .before .before .before .before .before .before .loop .inv .3
+turn-requires c κs =
+    let known = c .before .before .before .before in
+    known .before .before .before .loop .inv .3
 
 put-event-requires : tie.Need-put-event-requires Inv-loop μ-loop
 put-event-requires c κs = (omega arith, omega arith)
@@ -64,16 +67,20 @@ loop-less c = omega arith
 
 loop-again : tie.Need-loop-again Inv-loop μ-loop
 loop-again c =
-    let l = c .before .before .before .before .before .before .before .before .before .before .before .before .before .before .loop in
-    let turned = rw (c .before .before .before .before .before .before .event-on .ensures) at (c .before .before .before .before .before .turn .ensures) in
-    let first = found-first _ _ _ (c .before .before .before .before .before .before .before .before .before .before .before .before .three-at .ensures) _ (c .before .before .before .before .before .before .before .before .before .before .event .given .1) in (
+    let put = c .before .before in
+    let given = put .before .before .before in
+    let known = given .before .before .before in
+    let event = known .before in
+    let read = event .before .before in
+    let turned = given .turn .ensures in
+    let first = found-first _ _ _ (read .three-at .ensures) _ (event .event .given .1) in (
       omega arith,
       omega arith,
       omega arith,
       turned .1,
       omega arith,
       omega arith,
-      lines-turn _ _ _ _ _ _ _ _ (l .inv .6) _ _ _ _ _ first (turned .0) (omega arith) (c .before .before .put-event .ensures .0),
+      lines-turn _ _ _ _ _ _ _ _ (read .before .before .loop .inv .6) _ _ _ _ _ first (turned .0) (omega arith) (put .put-event .ensures .0),
     )
 
 enum-told : tie.Need-enum-told Inv-loop μ-loop
@@ -84,7 +91,8 @@ same-length c = c .before .before .before .before .loop .inv .4
 
 returns : tie.Need-returns Inv-loop μ-loop
 returns c =
-    lines-end _ _ _ _ _ _ _ _ (c .before .before .before .before .loop .inv .6) (none-left _ _ _ (c .before .before .three-at .ensures) (c .enum-told .given .1))
+    let read = c .before .before in
+    lines-end _ _ _ _ _ _ _ _ (read .before .before .loop .inv .6) (none-left _ _ _ (read .three-at .ensures) (c .enum-told .given .1))
 
 same-length-2 : tie.Need-same-length-2 Inv-loop μ-loop
 same-length-2 c = c .before .loop .inv .4
@@ -98,11 +106,10 @@ put-lines-spec =
     (tie.spec
     Inv-loop
     μ-loop
-    switched-on-requires
+    started-requires
     loop-holds
     three-at-requires
     enum-known-event
-    event-on-requires
     turn-requires
     put-event-requires
     add-number

@@ -1,4 +1,4 @@
--- `put_printed` meets its contract.
+-- Each of the three texts by its law.
 use borrow.Author.Needs.{needs}
 use Rattle.table.proofs.Outcomes.{prints-too-long, prints-refused, prints-table}
 use Rattle.table.proofs.printed.put_printed.Statement.{statement}

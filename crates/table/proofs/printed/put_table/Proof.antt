@@ -1,4 +1,4 @@
--- `put_table` meets its contract.
+-- The heading is put, then the lines behind it.
 use borrow.Author.Needs.{needs}
 use native.Mathlib.Omega.{arith}
 use Rattle.table.specs.Table.{tableOf}
@@ -20,7 +20,9 @@ same-length c = search needs
 
 returns : tie.Need-returns
 unfolding tableOf
-returns c = puts-then _ _ _ _ _ _ _ _ (omega arith) (c .before .before .before .before .before .before .put-text .ensures) (c .before .before .put-lines .ensures)
+returns c =
+    let lines = c .before .before in
+    puts-then _ _ _ _ _ _ _ _ (omega arith) (lines .before .before .before .before .put-text .ensures) (lines .put-lines .ensures)
 
 pub put-table-spec : {M : Type 1} → statement M
 put-table-spec =
