@@ -1,13 +1,13 @@
 -- Laws of the sum over what the events are answered.
 use Prim.Native.Nat.{ℕ, _+_}
-use mathlib.Core.Path.{_≡_}
-use mathlib.Core.List.{List, [], _∷_}
 use lib.ListN.{drop}
-use Rattle.controller.specs.declared.Controller.{Controller}
-use Rattle.bus.specs.Transfer.{Told}
+use mathlib.Core.List.{List, [], _∷_}
+use mathlib.Core.Path.{_≡_}
 use Rattle.bus.specs.Events.{toldBy, saidBy}
-use Rattle.record.specs.declared.events.Event.{Event}
+use Rattle.bus.specs.Transfer.{Told}
+use Rattle.controller.specs.declared.Controller.{Controller}
 use Rattle.record.specs.Record.{runIn}
+use Rattle.record.specs.declared.events.Event.{Event}
 use Rattle.run.specs.Run.{eventOn}
 use Rattle.benchmark_events.specs.Sum.{foldedOf, sumOver, sumFrom}
 

@@ -1,9 +1,9 @@
 -- The checksum of all answers, which the C model makes of the same events.
 use Prim.Native.Nat.{ℕ, _+_, _*_, _%_}
-use mathlib.Core.List.{List, [], _∷_, map}
 use lib.ListN.{drop}
-use Rattle.controller.specs.declared.Controller.{Controller}
+use mathlib.Core.List.{List, [], _∷_, map}
 use Rattle.bus.specs.Events.{Said, saidBy}
+use Rattle.controller.specs.declared.Controller.{Controller}
 use Rattle.record.specs.Record.{runIn}
 use Rattle.run.specs.Run.{eventOn}
 

@@ -1,62 +1,42 @@
 -- A data write is in the addressed cell, and a data read of that address returns it, on eight and on four lines.
-use Prim.Native.Nat.{ℕ, _+_, _-_, _*_, _≤_, _<_, _%_}
-use mathlib.Core.Path.{_≡_, _∙_, ap, refl, subst, subst⁻¹, sym}
-use mathlib.Core.Logic.{_⊎_, _≢_, _↔_, ⊎-elim, inl, inr}
-use mathlib.Core.Bool.{Bool, true, false, cond, not, _&&_, _||_, Bool·beq}
-use mathlib.Core.List.{List, [], _∷_}
-use native.Mathlib.Omega.{arith}
-use lib.Dec.{T, ltb, leb, eqb, leb→le, le→leb, eqb→eq, eqb-refl, T-not, lit≤, ltb→lt, lt→ltb}
-use lib.ListN.{getD, set, replicate, length, length-set, length-replicate}
+use Prim.Native.Nat.{ℕ, _*_, _≤_, _<_}
+use lib.Dec.{T, leb→le, lit≤}
+use lib.ListN.{length, length-set, length-replicate}
 use lib.Seq.{getD-set-same}
-use Rattle.condition.specs.First.{Rule, _when_, firstOf, Exactly}
-use Rattle.condition.proofs.First.{first-given-exactly}
-use Rattle.condition.proofs.Tests.{is-true, holds, not-not, and-left, and-right, and-both, split, neqb→ne, met}
+use mathlib.Core.List.{List, [], _∷_}
+use mathlib.Core.Path.{_≡_, _∙_, ap, refl, subst, subst⁻¹}
+use native.Mathlib.Omega.{arith}
+use Rattle.condition.proofs.Tests.{split}
+use Rattle.controller.proofs.Ranged.{facts, test}
+use Rattle.controller.specs.Answers.{saying}
+use Rattle.controller.specs.Memory.{Change, byteAt, storeAt, displayAfter, characterAfter}
+use Rattle.controller.specs.Part.{awaiting, with, longest, inRange, freshWith, switchedOn}
+use Rattle.controller.specs.Result.{Result}
+use Rattle.controller.specs.Told.{Told, addressed, carried}
+use Rattle.controller.specs.declared.Controller.{Controller}
+use Rattle.counters.proofs.Laws.{cell-exists}
+use Rattle.counters.specs.Address.{display, hasCharacter, cellOf}
+use Rattle.counters.specs.Counter.{hasCounter}
+use Rattle.counters.specs.Shift.{shift}
 use Rattle.counters.specs.declared.LineMode.{LineMode}
-use Rattle.counters.specs.declared.LineMode.the-variants.{One, Two}
 use Rattle.counters.specs.declared.counter.Counter.{Counter}
 use Rattle.counters.specs.declared.counter.Counter.the-variants.{Display, Character}
-use Rattle.counters.specs.declared.shift.Shift.{Shift}
-use Rattle.counters.specs.Address.{display, hasDisplay, hasCharacter, cellOf}
-use Rattle.counters.specs.Counter.{hasCounter, stepOf}
-use Rattle.counters.specs.Shift.{shift, hasShift}
-use Rattle.counters.proofs.Laws.{cell-exists}
 use Rattle.event.specs.declared.Event.{Event}
 use Rattle.event.specs.declared.Event.the-variants.{Transfer, Wait}
-use Rattle.event.specs.declared.Kind.{Kind}
-use Rattle.event.specs.declared.Kind.the-variants.{InstructionWrite, DataWrite, StatusRead, DataRead}
-use Rattle.event.specs.Kind.{isRead, isStatus, alike}
+use Rattle.event.specs.declared.Kind.the-variants.{DataWrite, DataRead}
+use Rattle.halves.specs.Halves.{upper, lower, halfFits, answered}
 use Rattle.halves.specs.declared.Half.{Half}
-use Rattle.halves.specs.declared.LineCount.{LineCount}
 use Rattle.halves.specs.declared.LineCount.the-variants.{Eight, Four}
-use Rattle.halves.specs.Halves.{upper, lower, halfFits, heldBy, upperOf, isFirst, disagrees, completed, answered}
-use Rattle.halves.proofs.Waiting.{first-fits}
-use Rattle.controller.specs.declared.Controller.{Controller}
-use Rattle.controller.specs.declared.answer.Answer.{Answer}
-use Rattle.controller.specs.declared.answer.Answer.the-variants.{Done, FirstHalf, Busy, HalvesDisagree, NoSuchAddress, NotInRange}
-use Rattle.controller.specs.declared.effect.Effect.{Effect}
-use Rattle.controller.specs.declared.registers.Registers.{Registers}
-use Rattle.controller.specs.Answers.{Said, saying, refused, saidOf}
-use Rattle.controller.specs.Memory.{Change, byteAt, storeAt, displayAfter, characterAfter}
-use Rattle.controller.specs.Part.{placed, awaiting, counterStepped, with, waited, longest, inRange, freshRegisters, freshWith, switchedOn}
-use Rattle.controller.specs.Result.{Result, done, forgotten, leaving}
-use Rattle.controller.specs.Told.{Told, toldWith, addressed, carried, unchanged}
-use Rattle.controller.proofs.Ranged.{InRange, facts, test, unhalved}
-use Rattle.instructions.specs.declared.instruction.Instruction.{Instruction}
-use Rattle.instructions.specs.declared.instruction.Instruction.the-variants.{Nothing, Clear, Home, EntryMode, OnOff, Move, FunctionSet, SetCharacter, SetDisplay}
-use Rattle.instructions.specs.Instructions.{decode, moved, unlessChanged, rearranged, rowOf, obey}
-use Rattle.instructions.proofs.Decoded.{of-decoded}
-use Rattle.instructions.proofs.Rows.{ticks-fit, change-by-byte}
-use Rattle.step.specs.Data.{shiftAfter, writeData, readData, readStatus, readOf, statusOf, act}
-use Rattle.step.specs.Step.{firstHalf, secondHalf, onFour, onBus, refusedBusy, resultFor, stepped}
-use Rattle.step.proofs.Joined.{joined, bus-joined}
-use Rattle.bus.specs.declared.Outcome.{Outcome}
-use Rattle.bus.specs.Transfer.{told, transferOf, waitedTold, waitOf}
-use Rattle.bus.specs.Events.{toldBy, afterEvents, reached, waits, sum}
-use Rattle.bus.specs.Refusals.{byteOf, lacksAddress, transferRules, waitRules}
+use Rattle.instructions.specs.declared.instruction.Instruction.the-variants.{Nothing, Clear}
+use Rattle.step.specs.Data.{writeData, readData, readOf, act}
+use Rattle.step.specs.Step.{firstHalf, secondHalf, onFour}
+use Rattle.bus.specs.Events.{toldBy, afterEvents, waits}
+use Rattle.bus.specs.Refusals.{byteOf}
+use Rattle.bus.specs.Transfer.{transferOf, waitOf}
 use Rattle.bus.specs.Written.{Whole, ReachedWhole, byteIn, pointed, Wrote, WriteIsRead}
+use Rattle.bus.proofs.Free.{withBusy, waits-only-busy, transfer-steps, idle-free, eight-acts, four-acts}
 use Rattle.bus.proofs.Outcomes.{of-step, of-transfer}
 use Rattle.bus.proofs.Range.{range-kept}
-use Rattle.bus.proofs.Free.{withBusy, waits-only-busy, transfer-steps, idle-free, eight-acts, four-acts}
 
 -- ---- the memories keep their lengths
 display-whole : (m : Change) (d : List ℕ) → length d ≡ 80 → length (displayAfter m d) ≡ 80
@@ -187,12 +167,12 @@ module _ (c : Controller) (n : ℕ) (w : Whole c) (t : T (inRange (c .registers)
           ∙ ap (saying 0) is-stored;
       read-on-four = λ ns m m′ z e. (
         ap (λ (x : Controller). transferOf x DataRead m .said) (waited-for ns z)
-        ∙ ap (λ (x : Told). x .said) (first-read again again-in-range refl refl m e)
-        ∙ ap (λ (v : ℕ). saying 20 (upper v * 16)) is-stored,
+            ∙ ap (λ (x : Told). x .said) (first-read again again-in-range refl refl m e)
+            ∙ ap (λ (v : ℕ). saying 20 (upper v * 16)) is-stored,
         ap (λ (x : Controller). transferOf (transferOf x DataRead m .controller) DataRead m′ .said) (waited-for ns z)
-        ∙ ap (λ (x : Told). transferOf (x .controller) DataRead m′ .said) (first-read again again-in-range refl refl m e)
-        ∙ second-read again again-in-range refl refl m′ e
-        ∙ ap (λ (v : ℕ). saying 0 (lower v * 16)) is-stored,
+            ∙ ap (λ (x : Told). transferOf (x .controller) DataRead m′ .said) (first-read again again-in-range refl refl m e)
+            ∙ second-read again again-in-range refl refl m′ e
+            ∙ ap (λ (v : ℕ). saying 0 (lower v * 16)) is-stored,
       );
     }
 

@@ -1,12 +1,12 @@
 -- Events in order: any list of transfers and waits since switching on.
 use Prim.Native.Nat.{ℕ, _+_}
 use mathlib.Core.List.{List, [], _∷_}
-use Rattle.event.specs.declared.Event.{Event}
-use Rattle.event.specs.declared.Event.the-variants.{Transfer, Wait}
-use Rattle.controller.specs.declared.Controller.{Controller}
 use Rattle.controller.specs.Answers.{Said}
 use Rattle.controller.specs.Part.{switchedOn}
 use Rattle.controller.specs.Told.{Told}
+use Rattle.controller.specs.declared.Controller.{Controller}
+use Rattle.event.specs.declared.Event.{Event}
+use Rattle.event.specs.declared.Event.the-variants.{Transfer, Wait}
 use Rattle.bus.specs.Transfer.{transferOf, waitOf}
 
 unfoldable pub toldBy : Event → Controller → Told

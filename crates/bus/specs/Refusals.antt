@@ -3,12 +3,12 @@ use Prim.Native.Nat.{ℕ}
 use mathlib.Core.Bool.{Bool, false, not}
 use mathlib.Core.List.{List, [], _∷_}
 use Rattle.condition.specs.First.{Rule, _when_}
+use Rattle.controller.specs.Part.{inRange}
+use Rattle.controller.specs.declared.Controller.{Controller}
+use Rattle.controller.specs.declared.registers.Registers.{Registers}
 use Rattle.event.specs.declared.Kind.{Kind}
 use Rattle.event.specs.declared.Kind.the-variants.{InstructionWrite, DataWrite, StatusRead, DataRead}
 use Rattle.halves.specs.Halves.{isFirst, disagrees, completed}
-use Rattle.controller.specs.declared.Controller.{Controller}
-use Rattle.controller.specs.declared.registers.Registers.{Registers}
-use Rattle.controller.specs.Part.{inRange}
 use Rattle.instructions.specs.Instructions.{decode, rowOf}
 use Rattle.step.specs.Step.{refusedBusy}
 

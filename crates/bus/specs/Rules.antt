@@ -1,11 +1,11 @@
 -- Every rule of the machine, opened by one name: `unfolding rules`. No rule of the paper; for what is proved by computation.
+use Rattle.controller.specs.Memory.{byteAt, storeAt, displayAfter, characterAfter}
+use Rattle.controller.specs.Part.{waited, inRange, freshRegisters, freshWith, switchedOn}
 use Rattle.counters.specs.Address.{hasDisplay, cellOf, addressOf, hasCharacter, stepDisplay, stepCharacter}
 use Rattle.counters.specs.Counter.{hasCounter, stepOf, numberOn}
 use Rattle.counters.specs.Shift.{lastShift, hasShift, moveOf}
 use Rattle.counters.specs.Wrap.{next, previous}
 use Rattle.halves.specs.Halves.{isFour, halfFits, isFirst, disagrees, completed, answered}
-use Rattle.controller.specs.Memory.{byteAt, storeAt, displayAfter, characterAfter}
-use Rattle.controller.specs.Part.{waited, inRange, freshRegisters, freshWith, switchedOn}
 use Rattle.instructions.specs.Instructions.{bit, decode, moved, unlessChanged, rearranged, rowOf, obey}
 use Rattle.step.specs.Data.{shiftAfter, writeData, readData, readStatus, statusOf, readOf, act}
 use Rattle.step.specs.Step.{firstHalf, secondHalf, onFour, onBus, refusedBusy, resultFor}

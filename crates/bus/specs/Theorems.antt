@@ -1,30 +1,29 @@
 -- What holds of every transfer and every wait, from any state and with any value. proofs/ proves each.
 use Prim.Native.Nat.{ℕ, _-_, _≤_}
-use mathlib.Core.Path.{_≡_}
-use mathlib.Core.Logic.{_⊎_, _≢_}
-use mathlib.Core.Bool.{Bool, false, _&&_, cond, not}
-use mathlib.Core.List.{List}
 use lib.Dec.{T, eqb}
 use lib.ListN.{getD, replicate}
+use mathlib.Core.Bool.{Bool, false, _&&_, cond, not}
+use mathlib.Core.List.{List}
+use mathlib.Core.Logic.{_⊎_, _≢_}
+use mathlib.Core.Path.{_≡_}
 use Rattle.condition.specs.First.{Exactly}
+use Rattle.controller.specs.Part.{with, awaiting, longest, inRange}
+use Rattle.controller.specs.Told.{Told}
+use Rattle.controller.specs.declared.Controller.{Controller}
+use Rattle.counters.specs.Address.{cellOf}
 use Rattle.counters.specs.declared.LineMode.{LineMode}
 use Rattle.counters.specs.declared.counter.Counter.{Counter}
 use Rattle.counters.specs.declared.counter.Counter.the-variants.{Display, Character}
-use Rattle.counters.specs.Address.{cellOf}
+use Rattle.event.specs.Kind.{isRead}
 use Rattle.event.specs.declared.Event.{Event}
 use Rattle.event.specs.declared.Kind.{Kind}
 use Rattle.event.specs.declared.Kind.the-variants.{InstructionWrite, DataWrite, StatusRead, DataRead}
-use Rattle.event.specs.Kind.{isRead}
 use Rattle.halves.specs.declared.Half.{Half}
-use Rattle.controller.specs.declared.Controller.{Controller}
-use Rattle.controller.specs.declared.effect.Effect.{Effect}
-use Rattle.controller.specs.Part.{with, awaiting, longest, inRange}
-use Rattle.controller.specs.Told.{Told, toldWith}
 use Rattle.instructions.specs.Instructions.{decode, rowOf}
-use Rattle.bus.specs.declared.Outcome.{Outcome}
-use Rattle.bus.specs.Transfer.{told, transferOf, waitOf}
 use Rattle.bus.specs.Events.{toldBy, reached, waits, sum}
 use Rattle.bus.specs.Refusals.{byteOf, transferRules, waitRules}
+use Rattle.bus.specs.Transfer.{told, transferOf, waitOf}
+use Rattle.bus.specs.declared.Outcome.{Outcome}
 
 -- ---- range
 -- every transfer and every wait keeps a controller in range,
@@ -118,8 +117,3 @@ WaitedEnough = (c : Controller) (ns : List ℕ) → longest ≤ sum ns → (k : 
 -- ---- any two outcomes that a promise allows are equal
 abbrev pub TransferSettled : Type 0
 TransferSettled = (o p : Outcome) (t : Told) → told o ≡ t → told p ≡ t → o ≡ p
-
--- of a turn also each byte of both memories
-abbrev pub TurnSettled : Type 0
-TurnSettled =
-    (e f : Effect) (d m d′ m′ : List ℕ) (t : Told) → toldWith d m e ≡ t → toldWith d′ m′ f ≡ t → (e ≡ f) × (d ≡ d′) × (m ≡ m′)

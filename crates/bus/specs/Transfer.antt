@@ -1,11 +1,11 @@
 -- "Refusal numbers": one transfer and one wait, with the refusals in their order: 16 first, then the lower number.
 use Prim.Native.Nat.{ℕ}
 use mathlib.Core.Bool.{cond}
-use Rattle.event.specs.declared.Kind.{Kind}
-use Rattle.controller.specs.declared.Controller.{Controller}
 use Rattle.controller.specs.Answers.{saying, saidOf}
 use Rattle.controller.specs.Part.{with, waited, inRange}
 use Rattle.controller.specs.Told.{Told, unchanged}
+use Rattle.controller.specs.declared.Controller.{Controller}
+use Rattle.event.specs.declared.Kind.{Kind}
 use Rattle.step.specs.Step.{stepped}
 use Rattle.bus.specs.declared.Outcome.{Outcome}
 

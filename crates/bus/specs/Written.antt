@@ -1,22 +1,20 @@
 -- "One that ignores writes by the addressed cell": a data write is in the addressed cell, and a data read of that address returns it.
 use Prim.Native.Nat.{ℕ, _*_}
-use mathlib.Core.Path.{_≡_}
-use mathlib.Core.List.{List}
-use lib.Dec.{T}
 use lib.ListN.{length}
+use mathlib.Core.List.{List}
+use mathlib.Core.Path.{_≡_}
+use Rattle.controller.specs.Answers.{saying}
+use Rattle.controller.specs.Memory.{byteAt}
+use Rattle.controller.specs.Part.{placed, with}
+use Rattle.controller.specs.declared.Controller.{Controller}
 use Rattle.counters.specs.declared.counter.Counter.{Counter}
 use Rattle.event.specs.declared.Event.{Event}
 use Rattle.event.specs.declared.Kind.the-variants.{DataWrite, DataRead}
-use Rattle.halves.specs.declared.Half.{Half}
-use Rattle.halves.specs.declared.LineCount.{LineCount}
 use Rattle.halves.specs.Halves.{upper, lower}
-use Rattle.controller.specs.declared.Controller.{Controller}
-use Rattle.controller.specs.Answers.{saying}
-use Rattle.controller.specs.Memory.{byteAt}
-use Rattle.controller.specs.Part.{placed, with, switchedOn}
-use Rattle.bus.specs.Transfer.{transferOf}
-use Rattle.bus.specs.Events.{toldBy, reached, waits}
+use Rattle.halves.specs.declared.LineCount.{LineCount}
+use Rattle.bus.specs.Events.{reached, waits}
 use Rattle.bus.specs.Refusals.{byteOf}
+use Rattle.bus.specs.Transfer.{transferOf}
 
 -- 80 display cells and 64 character bytes
 pub record Whole (c : Controller) : Type 0 where

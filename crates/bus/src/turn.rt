@@ -1,10 +1,10 @@
 // One event with the memories lent, so that nothing is copied.
-ghost use mathlib.Core.Path.{_≡_};
 ghost use mathlib.Core.Bool.{true};
+ghost use mathlib.Core.Path.{_≡_};
 ghost use Rattle.controller.specs.Part.{with, inRange};
 ghost use Rattle.controller.specs.Told.{toldWith};
-ghost use Rattle.bus.specs.Transfer.{transferOf};
 ghost use Rattle.bus.specs.Events.{toldBy};
+ghost use Rattle.bus.specs.Transfer.{transferOf};
 use controller::answer::Answer;
 use controller::effect::Effect;
 use controller::registers::Registers;

@@ -1,10 +1,10 @@
 -- Each number is given exactly when its rule says, by induction over the rules.
 use Prim.Native.Nat.{ℕ}
-use mathlib.Core.Path.{_≡_, refl, sym, _∙_, subst⁻¹}
+use lib.Dec.{T, eqb}
 use mathlib.Core.Bool.{Bool, true, false, _&&_, not}
 use mathlib.Core.List.{List, [], _∷_}
 use mathlib.Core.Logic.{_≢_, _↔_}
-use lib.Dec.{T, eqb}
+use mathlib.Core.Path.{_≡_, refl, sym, _∙_, subst⁻¹}
 use Rattle.condition.specs.First.{Rule, firstOf, ExactlyFrom, absent, distinct, FirstGivenExactly}
 use Rattle.condition.proofs.Tests.{split, and-left, and-right, neqb→ne}
 

@@ -1,10 +1,10 @@
 -- "Several at once": the first condition of a list that holds gives its number, and each number is given exactly when its rule says.
 use Prim.Native.Nat.{ℕ}
-use mathlib.Core.Path.{_≡_}
+use lib.Dec.{T, eqb}
 use mathlib.Core.Bool.{Bool, true, cond, _&&_, not}
 use mathlib.Core.List.{List, [], _∷_}
 use mathlib.Core.Logic.{_↔_}
-use lib.Dec.{T, eqb}
+use mathlib.Core.Path.{_≡_}
 
 -- a number, and when it is given
 pub record Rule : Type 0 where

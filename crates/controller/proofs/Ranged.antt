@@ -1,16 +1,16 @@
 -- The test `inRange`, taken apart and put together.
 use Prim.Native.Nat.{ℕ, _≤_}
-use mathlib.Core.Path.{_≡_}
-use mathlib.Core.Bool.{Bool, true, _&&_}
 use lib.Dec.{T, leb, leb→le, le→leb}
+use mathlib.Core.Bool.{Bool, true, _&&_}
+use mathlib.Core.Path.{_≡_}
+use Rattle.condition.proofs.Tests.{holds, is-true, and-left, and-right, and-both}
 use Rattle.counters.specs.Counter.{hasCounter}
 use Rattle.counters.specs.Shift.{hasShift}
-use Rattle.condition.proofs.Tests.{holds, is-true, and-left, and-right, and-both}
-use Rattle.controller.specs.declared.registers.Registers.{Registers}
-use Rattle.halves.specs.declared.Half.{Half}
-use Rattle.halves.specs.Halves.{halfFits, upperOf}
 use Rattle.halves.proofs.Waiting.{upper-fits}
+use Rattle.halves.specs.Halves.{halfFits, upperOf}
+use Rattle.halves.specs.declared.Half.{Half}
 use Rattle.controller.specs.Part.{awaiting, longest, inRange}
+use Rattle.controller.specs.declared.registers.Registers.{Registers}
 
 pub record InRange (r : Registers) : Type 0 where
   pub counter : T (hasCounter (r .mode .lines) (r .counter))

@@ -1,13 +1,15 @@
 -- Answers and effects are had back from what they tell.
-use mathlib.Core.Path.{_≡_, ap, refl}
-use mathlib.Core.Bool.{cond}
 use lib.Dec.{eqb}
-use Rattle.condition.proofs.Settled.{settled-by-both}
+use mathlib.Core.Bool.{cond}
+use mathlib.Core.Path.{_≡_, ap, refl}
+use Rattle.condition.proofs.Settled.{settled, settled-by-both}
+use Rattle.controller.specs.Answers.{Said, saidOf}
+use Rattle.controller.specs.Theorems.{EffectSettled}
+use Rattle.controller.specs.Told.{Told, toldWith}
 use Rattle.controller.specs.declared.answer.Answer.{Answer}
 use Rattle.controller.specs.declared.answer.Answer.the-variants.{Done, FirstHalf, Busy, HalvesDisagree, NoSuchAddress, NotInRange}
 use Rattle.controller.specs.declared.effect.Effect.{Effect}
 use Rattle.controller.specs.declared.registers.Registers.{Registers}
-use Rattle.controller.specs.Answers.{Said, saidOf}
 
 pub answerOf : Said → Answer
 answerOf s =
@@ -25,11 +27,19 @@ answer-back NoSuchAddress = refl
 answer-back NotInRange = refl
 
 -- two effects with the same registers that tell the same are equal
-pub effect-settled : (e f : Effect) {r : Registers} {s : Said} → e .registers ≡ r → f .registers ≡ r → saidOf (e .answer) ≡ s → saidOf (f .answer) ≡ s → e ≡ f
-effect-settled e f p q t u =
+pub same-effect : (e f : Effect) {r : Registers} {s : Said} → e .registers ≡ r → f .registers ≡ r → saidOf (e .answer) ≡ s → saidOf (f .answer) ≡ s → e ≡ f
+same-effect e f p q t u =
     settled-by-both {r = e} {s = f} (λ x. x .registers) (λ x. saidOf (x .answer)) (λ r s. record { registers = r; answer = answerOf s })
     (λ x. ap (λ a. record { registers = x .registers; answer = a }) (answer-back (x .answer)))
     p
     q
     t
     u
+
+pub effect-settled : EffectSettled
+effect-settled e f d m d′ m′ t p q =
+    let same : toldWith d m e ≡ toldWith d′ m′ f = settled p q in (
+      same-effect e f (ap (λ (x : Told). x .controller .registers) p) (ap (λ (x : Told). x .controller .registers) q) (ap (λ (x : Told). x .said) p) (ap (λ (x : Told). x .said) q),
+      ap (λ (x : Told). x .controller .display) same,
+      ap (λ (x : Told). x .controller .character) same,
+    )

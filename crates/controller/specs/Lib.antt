@@ -3,3 +3,4 @@ pub mod Memory
 pub mod Answers
 pub mod Result
 pub mod Told
+pub mod Theorems

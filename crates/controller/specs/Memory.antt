@@ -1,13 +1,13 @@
 -- "Memories and counters": the byte that an address names, and what a transfer does to the two memories.
 use Prim.Native.Nat.{ℕ}
-use mathlib.Core.List.{List}
 use lib.ListN.{replicate, set, getD}
+use mathlib.Core.List.{List}
+use Rattle.counters.specs.Address.{cellOf}
 use Rattle.counters.specs.declared.LineMode.{LineMode}
 use Rattle.counters.specs.declared.address.Cell.{Cell}
 use Rattle.counters.specs.declared.address.CharacterAddress.{CharacterAddress}
 use Rattle.counters.specs.declared.counter.Counter.{Counter}
 use Rattle.counters.specs.declared.counter.Counter.the-variants.{Display, Character}
-use Rattle.counters.specs.Address.{cellOf}
 
 -- the four things that a transfer can do to the two memories: none, clear, one display cell, one character byte
 pub data Change : Type 0 where

@@ -1,25 +1,25 @@
 -- "Memories and counters": the registers, in range, switched on, and the wait rule.
 use Prim.Native.Nat.{ℕ, _-_}
-use mathlib.Core.Bool.{Bool, true, false, _&&_}
-use mathlib.Core.List.{List}
 use lib.Dec.{leb}
 use lib.ListN.{replicate}
+use mathlib.Core.Bool.{Bool, true, false, _&&_}
+use mathlib.Core.List.{List}
+use Rattle.counters.specs.Address.{display}
+use Rattle.counters.specs.Counter.{hasCounter, stepOf}
+use Rattle.counters.specs.Shift.{shift, hasShift, moveOf}
 use Rattle.counters.specs.declared.LineMode.the-variants.{One}
 use Rattle.counters.specs.declared.counter.Counter.{Counter}
 use Rattle.counters.specs.declared.counter.Counter.the-variants.{Display}
 use Rattle.counters.specs.declared.shift.Shift.{Shift}
-use Rattle.counters.specs.Address.{display}
-use Rattle.counters.specs.Counter.{hasCounter, stepOf}
-use Rattle.counters.specs.Shift.{shift, hasShift, moveOf}
+use Rattle.halves.specs.Halves.{halfFits}
 use Rattle.halves.specs.declared.Half.{Half}
 use Rattle.halves.specs.declared.Half.the-variants.{Nothing}
 use Rattle.halves.specs.declared.LineCount.{LineCount}
 use Rattle.halves.specs.declared.LineCount.the-variants.{Eight}
-use Rattle.halves.specs.Halves.{halfFits}
 use Rattle.controller.specs.declared.Controller.{Controller}
-use Rattle.controller.specs.declared.registers.Mode.{Mode}
 use Rattle.controller.specs.declared.registers.Entry.{Entry}
 use Rattle.controller.specs.declared.registers.Lights.{Lights}
+use Rattle.controller.specs.declared.registers.Mode.{Mode}
 use Rattle.controller.specs.declared.registers.Registers.{Registers}
 
 -- ---- the registers with some of them set anew

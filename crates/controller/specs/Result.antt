@@ -1,11 +1,11 @@
 -- What a transfer comes to: what is told, the registers, and the change of memory.
 use Prim.Native.Nat.{ℕ}
 use Rattle.halves.specs.declared.Half.{Half}
-use Rattle.controller.specs.declared.effect.Effect.{Effect}
-use Rattle.controller.specs.declared.registers.Registers.{Registers}
 use Rattle.controller.specs.Answers.{Said, saying, refused, saidOf}
 use Rattle.controller.specs.Memory.{Change}
 use Rattle.controller.specs.Part.{awaiting}
+use Rattle.controller.specs.declared.effect.Effect.{Effect}
+use Rattle.controller.specs.declared.registers.Registers.{Registers}
 
 pub record Result : Type 0 where
   pub said : Said

@@ -1,12 +1,12 @@
 -- What a caller is told of a transfer or a wait, and the controller that it gets back.
 use Prim.Native.Nat.{ℕ}
 use mathlib.Core.List.{List}
-use Rattle.controller.specs.declared.Controller.{Controller}
-use Rattle.controller.specs.declared.effect.Effect.{Effect}
 use Rattle.controller.specs.Answers.{Said, refused, saidOf}
 use Rattle.controller.specs.Memory.{byteAt, displayAfter, characterAfter}
 use Rattle.controller.specs.Part.{with}
 use Rattle.controller.specs.Result.{Result}
+use Rattle.controller.specs.declared.Controller.{Controller}
+use Rattle.controller.specs.declared.effect.Effect.{Effect}
 
 pub record Told : Type 0 where
   pub said : Said

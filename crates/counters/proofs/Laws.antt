@@ -1,24 +1,23 @@
 -- Address and cell, steps of the counter, moves of the display: each law one computed test of all numbers.
 use Prim.Native.Nat.{ℕ, _<_}
-use mathlib.Core.Path.{_≡_, ap}
-use mathlib.Core.Logic.{⊎-elim}
-use mathlib.Core.Bool.{Bool, true, false, not, _&&_}
-use native.Mathlib.Omega.{arith}
 use lib.Dec.{T, ltb, leb, eqb, ltb→lt, leb→le, eqb→eq}
-use Rattle.counters.specs.declared.LineMode.{LineMode}
-use Rattle.counters.specs.declared.LineMode.the-variants.{One, Two}
-use Rattle.counters.specs.declared.address.DisplayAddress.{DisplayAddress}
-use Rattle.counters.specs.declared.address.CharacterAddress.{CharacterAddress}
-use Rattle.counters.specs.declared.address.Cell.{Cell}
-use Rattle.counters.specs.declared.counter.Counter.{Counter}
-use Rattle.counters.specs.declared.counter.Counter.the-variants.{Display, Character}
-use Rattle.counters.specs.declared.shift.Shift.{Shift}
+use mathlib.Core.Bool.{Bool, true, false, not, _&&_}
+use mathlib.Core.Logic.{⊎-elim}
+use mathlib.Core.Path.{ap}
+use native.Mathlib.Omega.{arith}
+use Rattle.condition.proofs.Tests.{each, every, _⇒_, implies, and-right, or-cases}
 use Rattle.counters.specs.Address.{display, character, cell, hasDisplay, hasCharacter, cellOf, addressOf, stepDisplay, stepCharacter}
 use Rattle.counters.specs.Counter.{hasCounter, stepOf, numberOn}
-use Rattle.counters.specs.Wrap.{next, previous}
-use Rattle.counters.specs.Theorems.{CellExists, AddressComesBack, AddressExists, CellComesBack, StepExists, StepBack, NumberBelow, MoveExists, MoveBack}
 use Rattle.counters.specs.Shift.{shift, lastShift, hasShift, moveOf}
-use Rattle.condition.proofs.Tests.{each, every, _⇒_, implies, and-right, or-cases}
+use Rattle.counters.specs.Theorems.{CellExists, AddressComesBack, AddressExists, CellComesBack, StepExists, StepBack, NumberBelow, MoveExists, MoveBack}
+use Rattle.counters.specs.Wrap.{next, previous}
+use Rattle.counters.specs.declared.LineMode.{LineMode}
+use Rattle.counters.specs.declared.LineMode.the-variants.{One, Two}
+use Rattle.counters.specs.declared.address.Cell.{Cell}
+use Rattle.counters.specs.declared.address.CharacterAddress.{CharacterAddress}
+use Rattle.counters.specs.declared.address.DisplayAddress.{DisplayAddress}
+use Rattle.counters.specs.declared.counter.Counter.the-variants.{Display, Character}
+use Rattle.counters.specs.declared.shift.Shift.{Shift}
 
 -- a law of addresses is a test of 128 numbers
 display-below : (mode : LineMode) (n : ℕ) → T (hasDisplay mode (display n)) → n < 0x80

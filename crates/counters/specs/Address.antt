@@ -1,13 +1,13 @@
 -- "Memories and counters": the addresses of both memories, the cells of display memory, and one step.
 use Prim.Native.Nat.{ℕ, _+_, _-_}
-use mathlib.Core.Bool.{Bool, true, false, cond, _&&_, _||_}
 use lib.Dec.{ltb, leb, eqb}
+use mathlib.Core.Bool.{Bool, true, false, cond, _&&_, _||_}
+use Rattle.counters.specs.Wrap.{next, previous, wrapped}
 use Rattle.counters.specs.declared.LineMode.{LineMode}
 use Rattle.counters.specs.declared.LineMode.the-variants.{One, Two}
-use Rattle.counters.specs.declared.address.DisplayAddress.{DisplayAddress}
-use Rattle.counters.specs.declared.address.CharacterAddress.{CharacterAddress}
 use Rattle.counters.specs.declared.address.Cell.{Cell}
-use Rattle.counters.specs.Wrap.{next, previous, wrapped}
+use Rattle.counters.specs.declared.address.CharacterAddress.{CharacterAddress}
+use Rattle.counters.specs.declared.address.DisplayAddress.{DisplayAddress}
 
 abbrev pub display : ℕ → DisplayAddress
 display n = record { 0 = n }

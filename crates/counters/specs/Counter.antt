@@ -1,10 +1,10 @@
 -- "Memories and counters": the address counter belongs to one of the two memories.
 use Prim.Native.Nat.{ℕ}
 use mathlib.Core.Bool.{Bool}
+use Rattle.counters.specs.Address.{hasDisplay, hasCharacter, stepDisplay, stepCharacter}
 use Rattle.counters.specs.declared.LineMode.{LineMode}
 use Rattle.counters.specs.declared.counter.Counter.{Counter}
 use Rattle.counters.specs.declared.counter.Counter.the-variants.{Display, Character}
-use Rattle.counters.specs.Address.{hasDisplay, hasCharacter, stepDisplay, stepCharacter}
 
 -- the address is one that its memory and line mode have
 unfoldable pub hasCounter : LineMode → Counter → Bool

@@ -1,11 +1,11 @@
 -- "Memories and counters": the shift, 0 to 79 with one line, 0 to 39 with two; it wraps.
 use Prim.Native.Nat.{ℕ}
-use mathlib.Core.Bool.{Bool, not}
 use lib.Dec.{leb}
+use mathlib.Core.Bool.{Bool, not}
+use Rattle.counters.specs.Wrap.{wrapped}
 use Rattle.counters.specs.declared.LineMode.{LineMode}
 use Rattle.counters.specs.declared.LineMode.the-variants.{One, Two}
 use Rattle.counters.specs.declared.shift.Shift.{Shift}
-use Rattle.counters.specs.Wrap.{wrapped}
 
 abbrev pub shift : ℕ → Shift
 shift n = record { 0 = n }

@@ -1,16 +1,16 @@
 -- What is proved of addresses, cells, the counter and the shift that exist.
-use Prim.Native.Nat.{ℕ, _<_}
-use mathlib.Core.Path.{_≡_}
-use mathlib.Core.Bool.{Bool, not}
+use Prim.Native.Nat.{_<_}
 use lib.Dec.{T}
-use Rattle.counters.specs.declared.LineMode.{LineMode}
-use Rattle.counters.specs.declared.address.DisplayAddress.{DisplayAddress}
-use Rattle.counters.specs.declared.address.Cell.{Cell}
-use Rattle.counters.specs.declared.counter.Counter.{Counter}
-use Rattle.counters.specs.declared.shift.Shift.{Shift}
+use mathlib.Core.Bool.{Bool, not}
+use mathlib.Core.Path.{_≡_}
 use Rattle.counters.specs.Address.{hasDisplay, cellOf, addressOf}
 use Rattle.counters.specs.Counter.{hasCounter, stepOf, numberOn}
 use Rattle.counters.specs.Shift.{hasShift, moveOf}
+use Rattle.counters.specs.declared.LineMode.{LineMode}
+use Rattle.counters.specs.declared.address.Cell.{Cell}
+use Rattle.counters.specs.declared.address.DisplayAddress.{DisplayAddress}
+use Rattle.counters.specs.declared.counter.Counter.{Counter}
+use Rattle.counters.specs.declared.shift.Shift.{Shift}
 
 -- ---- address and cell
 -- every display address has a cell, one of the 80, and comes back from it

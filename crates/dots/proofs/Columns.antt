@@ -1,16 +1,16 @@
 -- Laws of columns: a buffer of rows of s values each, in which the value d of row q stands at q * s + d.
 use Prim.Native.Nat.{ℕ, zero, suc, _+_, _*_, _/_, _%_, _<_, _≤_}
-use mathlib.Core.Path.{_≡_, refl, ap, sym, _∙_}
-use mathlib.Core.List.{List}
-use native.Mathlib.Nat.{zero-add, zero-mul, suc-mul, mul-zero, zero-lt-suc, lt-of-lt-of-le, mod-lt, div-add-mod', div-lt-iff-lt-mul, add-right-comm}
-use native.Mathlib.Numerals.{add-one}
-use native.Mathlib.Omega.{arith}
+use borrow.Author.Count.{below-more}
 use lib.Arith.{digits-lt, digits-div, digits-mod}
 use lib.ListN.{length, getD, set, length-set}
 use lib.Seq.{getD-set-same, getD-set-other, ext-getD}
-use borrow.Author.Count.{below-more}
-use Rattle.lent.specs.Lists.{values, parts}
+use mathlib.Core.List.{List}
+use mathlib.Core.Path.{_≡_, refl, ap, sym, _∙_}
+use native.Mathlib.Nat.{zero-add, zero-mul, suc-mul, mul-zero, zero-lt-suc, lt-of-lt-of-le, mod-lt, div-add-mod', div-lt-iff-lt-mul, add-right-comm}
+use native.Mathlib.Numerals.{add-one}
+use native.Mathlib.Omega.{arith}
 use Rattle.lent.proofs.Lists.{length-parts, length-values, parts-at, values-at}
+use Rattle.lent.specs.Lists.{values, parts}
 use Rattle.dots.specs.Contracts.{Column}
 
 same-row : (s q d k e : ℕ) → d < s → e < s → q * s + d ≡ k * s + e → q ≡ k

@@ -1,20 +1,20 @@
 -- Laws of a line: the definition's rows from the patterns and the mark that the code draws.
 use Prim.Native.Nat.{ℕ, _+_, _*_, _%_, _<_, _≤_}
-use mathlib.Core.Path.{_≡_, refl, ap, subst, sym, _∙_}
-use mathlib.Core.Bool.{Bool, true, false, cond, _&&_}
-use mathlib.Core.List.{List}
-use native.Mathlib.Omega.{arith}
+use borrow.Author.Tests.{eq-eqb, ne-eqb, eqb-true, eqb-false}
 use lib.Dec.{eqb}
 use lib.ListN.{length, getD}
-use borrow.Author.Tests.{eq-eqb, ne-eqb, eqb-true, eqb-false}
-use Rattle.lent.proofs.Lists.{parts-same, values-same}
+use mathlib.Core.Bool.{Bool, true, false, cond, _&&_}
+use mathlib.Core.List.{List}
+use mathlib.Core.Path.{_≡_, refl, ap, subst, sym, _∙_}
+use native.Mathlib.Omega.{arith}
 use Rattle.controller.specs.declared.Controller.{Controller}
+use Rattle.lent.proofs.Lists.{parts-same, values-same}
 use Rattle.size.specs.Size.{rowsOf}
-use Rattle.dots.specs.declared.phase.Phase.{Phase}
-use Rattle.dots.specs.declared.mark.Mark.{Mark}
+use Rattle.dots.specs.Contracts.{Column}
 use Rattle.dots.specs.Digit.{shownOn}
 use Rattle.dots.specs.Dots.{isDark, patternOf, isMarked, isSet, fiveOf, cellDots, dotsAt, lineOf}
-use Rattle.dots.specs.Contracts.{Column}
+use Rattle.dots.specs.declared.mark.Mark.{Mark}
+use Rattle.dots.specs.declared.phase.Phase.{Phase}
 use Rattle.dots.proofs.Columns.{columns-rows}
 
 -- ---- a byte, where the digit is marked or not

@@ -1,17 +1,17 @@
 -- Laws of the marked digit: on a line no two digits have the same display address.
 use Prim.Native.Nat.{ℕ, _+_, _-_, _/_, _%_, _<_, _≤_}
-use mathlib.Core.Path.{_≡_, refl, ap, subst, sym, _∙_}
-use mathlib.Core.Bool.{Bool, true, false}
-use native.Mathlib.Omega.{arith}
-use lib.Dec.{T, eqb}
 use borrow.Author.Tests.{eq-eqb, ne-eqb, eqb-true, eqb-false}
+use lib.Dec.{T, eqb}
+use mathlib.Core.Bool.{Bool, true, false}
+use mathlib.Core.Path.{_≡_, refl, ap, subst, sym, _∙_}
+use native.Mathlib.Omega.{arith}
+use Rattle.counters.proofs.Laws.{address-comes-back, cell-comes-back, address-exists}
+use Rattle.counters.specs.Address.{display, cell, hasDisplay, cellOf, addressOf}
 use Rattle.counters.specs.declared.LineMode.{LineMode}
 use Rattle.counters.specs.declared.LineMode.the-variants.{One, Two}
-use Rattle.counters.specs.declared.address.DisplayAddress.{DisplayAddress}
 use Rattle.counters.specs.declared.address.Cell.{Cell}
+use Rattle.counters.specs.declared.address.DisplayAddress.{DisplayAddress}
 use Rattle.counters.specs.declared.shift.Shift.{Shift}
-use Rattle.counters.specs.Address.{display, cell, hasDisplay, cellOf, addressOf}
-use Rattle.counters.proofs.Laws.{address-comes-back, cell-comes-back, address-exists}
 use Rattle.size.specs.Size.{linesOf, mostDigits}
 use Rattle.dots.specs.Digit.{shownOn}
 

@@ -1,8 +1,8 @@
 -- Helpers of contracts, not rules of the paper: what a function of this crate may count on, and what it leaves beside what it draws.
 use Prim.Native.Nat.{ℕ, _+_, _*_, _<_, _≤_}
-use mathlib.Core.Path.{_≡_}
-use mathlib.Core.List.{List}
 use lib.ListN.{getD}
+use mathlib.Core.List.{List}
+use mathlib.Core.Path.{_≡_}
 use Rattle.controller.specs.declared.Controller.{Controller}
 use Rattle.size.specs.Size.{mostDigits}
 use Rattle.dots.specs.Dots.{imageSize}

@@ -1,19 +1,19 @@
 -- "The picture": the dots of a digit in a row, one byte.
 use Prim.Native.Nat.{ℕ, _+_, _*_, _/_, _%_, _-_}
-use mathlib.Core.Bool.{Bool, true, false, cond, _&&_, _||_}
-use mathlib.Core.List.{List}
 use lib.Dec.{ltb, eqb}
 use lib.ListN.{getD}
-use Rattle.counters.specs.declared.address.Cell.{Cell}
-use Rattle.counters.specs.Address.{addressOf}
-use Rattle.counters.specs.Counter.{numberOn}
-use Rattle.lent.specs.Lists.{values, parts}
+use mathlib.Core.Bool.{Bool, true, false, cond, _&&_, _||_}
+use mathlib.Core.List.{List}
 use Rattle.controller.specs.declared.Controller.{Controller}
 use Rattle.controller.specs.declared.registers.Registers.{Registers}
+use Rattle.counters.specs.Address.{addressOf}
+use Rattle.counters.specs.Counter.{numberOn}
+use Rattle.counters.specs.declared.address.Cell.{Cell}
+use Rattle.lent.specs.Lists.{values, parts}
 use Rattle.size.specs.Size.{rowsOf}
+use Rattle.dots.specs.Digit.{shownOn}
 use Rattle.dots.specs.declared.phase.Phase.{Phase}
 use Rattle.dots.specs.declared.phase.Phase.the-variants.{Plain, Dark}
-use Rattle.dots.specs.Digit.{shownOn}
 
 -- the ROM image that the caller lends: 16 bytes for each of 256 codes
 abbrev pub imageSize : ℕ

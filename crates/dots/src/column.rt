@@ -1,9 +1,9 @@
 // One digit's column of a line: its pattern, row by row.
 ghost use Prim.Native.Nat.{_*_, _%_, _≤_, _<_};
-ghost use mathlib.Core.Path.{_≡_};
 ghost use lib.ListN.{length};
-ghost use Rattle.dots.specs.Dots.{imageSize, patternOf};
+ghost use mathlib.Core.Path.{_≡_};
 ghost use Rattle.dots.specs.Contracts.{Column};
+ghost use Rattle.dots.specs.Dots.{imageSize, patternOf};
 
 // Codes 10 to FF hex take the ROM's byte, codes 00 to 0F character memory's.
 fn pattern(character: &[u8; 64], rom: &[u8], rows: usize, code: u8, row: usize) -> u8

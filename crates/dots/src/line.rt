@@ -1,12 +1,12 @@
 // One line: its digits' columns, then the mark.
 ghost use Prim.Native.Nat.{ℕ, _+_, _*_, _%_, _≤_, _<_};
-ghost use mathlib.Core.Path.{_≡_};
-ghost use mathlib.Core.Bool.{true};
 ghost use lib.ListN.{length, getD};
+ghost use mathlib.Core.Bool.{true};
+ghost use mathlib.Core.Path.{_≡_};
 ghost use Rattle.size.specs.Size.{linesOf, mostDigits, rowsOf};
+ghost use Rattle.dots.specs.Contracts.{Drawable};
 ghost use Rattle.dots.specs.Digit.{shownOn};
 ghost use Rattle.dots.specs.Dots.{imageSize, patternOf, lineOf};
-ghost use Rattle.dots.specs.Contracts.{Drawable};
 use super::column::draw_column;
 use super::digit::shown;
 use super::mark::Mark;

@@ -1,14 +1,14 @@
 // Cursor and blink: the digit that they mark on a line, and the rows in which they set it.
 ghost use Prim.Native.Nat.{ℕ, _+_, _*_, _≤_, _<_};
-ghost use mathlib.Core.Path.{_≡_};
-ghost use mathlib.Core.Bool.{cond, _&&_};
 ghost use lib.Dec.{eqb};
 ghost use lib.ListN.{length, getD};
+ghost use mathlib.Core.Bool.{cond, _&&_};
+ghost use mathlib.Core.Path.{_≡_};
 ghost use Rattle.counters.specs.Address.{addressOf};
 ghost use Rattle.size.specs.Size.{linesOf, mostDigits};
+ghost use Rattle.dots.specs.Contracts.{Column};
 ghost use Rattle.dots.specs.Digit.{shownOn};
 ghost use Rattle.dots.specs.Dots.{isDark, isMarked, isSet};
-ghost use Rattle.dots.specs.Contracts.{Column};
 use super::phase::Phase;
 use controller::registers::Registers;
 use counters::LineMode;

@@ -1,21 +1,21 @@
 -- Laws of a drawing: how long its parts are, and where its rows stand in the picture's bytes.
 use Prim.Native.Nat.{ℕ, _+_, _*_, _-_, _≤_}
-use mathlib.Core.Path.{_≡_, refl, _∙_}
-use mathlib.Core.List.{List}
-use native.Mathlib.Omega.{arith}
 use lib.ListN.{length, take, drop, getD, length-append, length-drop}
 use lib.Seq.{take-length, getD-drop}
+use mathlib.Core.List.{List}
+use mathlib.Core.Path.{_≡_, refl, _∙_}
+use native.Mathlib.Omega.{arith}
+use Rattle.controller.specs.declared.registers.Mode.{Mode}
 use Rattle.counters.specs.declared.LineMode.{LineMode}
 use Rattle.counters.specs.declared.LineMode.the-variants.{One, Two}
 use Rattle.lent.proofs.Lists.{length-parts, length-values}
-use Rattle.controller.specs.declared.registers.Mode.{Mode}
 use Rattle.size.specs.Size.{rowsOf}
 use Rattle.text.specs.Text.{decimalOf}
+use Rattle.drawing.specs.Contracts.{rowSize, gapSize, linesSize, sizeOf}
+use Rattle.drawing.specs.Drawing.{headOf, rowIn, gapIn, between, lineIn, drawingOf}
+use Rattle.drawing.specs.Row.{textRow, imageRow}
 use Rattle.drawing.specs.declared.form.Form.{Form}
 use Rattle.drawing.specs.declared.form.Form.the-variants.{Text, Image}
-use Rattle.drawing.specs.Row.{textRow, imageRow}
-use Rattle.drawing.specs.Drawing.{headOf, rowIn, gapIn, between, lineIn, drawingOf}
-use Rattle.drawing.specs.Contracts.{rowSize, gapSize, linesSize, sizeOf}
 
 -- ---- lengths
 pub length-head : (width height : ℕ) → length (headOf Image width height) ≡ 5 + length (decimalOf width) + length (decimalOf height)

@@ -1,17 +1,17 @@
 -- Laws of the promise: what each answer leaves.
 use Prim.Native.Nat.{ℕ}
-use mathlib.Core.Path.{_≡_, sym}
-use mathlib.Core.Bool.{false}
-use mathlib.Core.List.{List, _++_}
 use lib.Dec.{eqb}
 use lib.ListN.{length, drop}
-use Rattle.lent.proofs.Left.{refused-keeps, done-writes-all}
+use mathlib.Core.Bool.{false}
+use mathlib.Core.List.{List, _++_}
+use mathlib.Core.Path.{_≡_, sym}
 use Rattle.controller.specs.declared.registers.Mode.{Mode}
+use Rattle.lent.proofs.Left.{refused-keeps, done-writes-all}
+use Rattle.drawing.specs.Answers.{numberOf, valueOf, answerFor, valueFor, Drawing}
+use Rattle.drawing.specs.Drawing.{drawingOf}
 use Rattle.drawing.specs.declared.Answer.{Answer}
 use Rattle.drawing.specs.declared.Answer.the-variants.{Done}
 use Rattle.drawing.specs.declared.form.Form.{Form}
-use Rattle.drawing.specs.Drawing.{drawingOf}
-use Rattle.drawing.specs.Answers.{numberOf, valueOf, answerFor, valueFor, Drawing}
 
 module _ (form : Form) (mode : Mode) (digits : ℕ) (dots out : List ℕ) where
   pub refused : (r : Answer) → numberOf r ≡ answerFor form mode digits dots out → eqb (numberOf r) 0 ≡ false → valueOf r ≡ 0 → Drawing form mode digits dots out r out

@@ -1,14 +1,14 @@
 -- Laws of one row: bits packed one by one, and the line end behind the marks.
 use Prim.Native.Nat.{ℕ, zero, suc, _+_, _*_, _^_, _≤_, _<_}
-use mathlib.Core.Path.{_≡_, refl}
+use lib.ListN.{length, getD, set, replicate}
+use lib.Seq.{drop-cons, drop-length, set-at}
 use mathlib.Core.List.{List, [], _∷_, _++_}
+use mathlib.Core.Path.{_≡_, refl}
 use native.Mathlib.Nat.{two-pow-succ, pow-le-pow-right}
 use native.Mathlib.Numerals.{add-one}
 use native.Mathlib.Omega.{arith}
-use lib.ListN.{length, getD, set, replicate}
-use lib.Seq.{drop-cons, drop-length, set-at}
-use Rattle.lent.specs.Lists.{values}
 use Rattle.lent.proofs.Lists.{length-values, Filled}
+use Rattle.lent.specs.Lists.{values}
 use Rattle.drawing.specs.Row.{packed, imageRow}
 
 -- ---- bits

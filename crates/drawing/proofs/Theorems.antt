@@ -1,23 +1,23 @@
 -- The theorems about a drawing: when it is refused, and how long it can be, line mode by line mode.
 use Prim.Native.Nat.{ℕ, _+_, _*_, _-_, _/_, _<_, _≤_}
+use lib.ListN.{length}
 use mathlib.Core.Bool.{Bool, true, false}
 use native.Mathlib.Omega.{arith}
-use lib.ListN.{length}
-use Rattle.condition.specs.First.{absent, distinct}
 use Rattle.condition.proofs.First.{first-given-exactly}
+use Rattle.condition.specs.First.{absent, distinct}
+use Rattle.controller.specs.declared.registers.Mode.{Mode}
 use Rattle.counters.specs.declared.LineMode.{LineMode}
 use Rattle.counters.specs.declared.LineMode.the-variants.{One, Two}
-use Rattle.controller.specs.declared.registers.Mode.{Mode}
-use Rattle.size.specs.Size.{linesOf, mostDigits, rowsIn}
 use Rattle.size.proofs.Sizes.{digits-counted}
+use Rattle.size.specs.Size.{linesOf, mostDigits, rowsIn}
 use Rattle.text.proofs.Decimal.{digits-below}
+use Rattle.drawing.specs.Answers.{refusals, answerFor}
+use Rattle.drawing.specs.Contracts.{rowSize, gapSize, linesSize, sizeOf}
+use Rattle.drawing.specs.Drawing.{heightOf, headOf, mostDrawn}
+use Rattle.drawing.specs.Row.{widthOf}
+use Rattle.drawing.specs.Theorems.{DrawingGivenExactly, AtMost}
 use Rattle.drawing.specs.declared.form.Form.{Form}
 use Rattle.drawing.specs.declared.form.Form.the-variants.{Text, Image}
-use Rattle.drawing.specs.Row.{widthOf}
-use Rattle.drawing.specs.Drawing.{heightOf, headOf, mostDrawn}
-use Rattle.drawing.specs.Contracts.{rowSize, gapSize, linesSize, sizeOf}
-use Rattle.drawing.specs.Answers.{refusals, answerFor}
-use Rattle.drawing.specs.Theorems.{DrawingGivenExactly, AtMost}
 use Rattle.drawing.proofs.Lengths.{length-head, length-drawing}
 
 pub drawing-given-exactly : DrawingGivenExactly

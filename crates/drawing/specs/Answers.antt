@@ -1,18 +1,18 @@
 -- "Refusal numbers": the number and value for each answer to a drawing, when it is given, and what a call leaves.
 use Prim.Native.Nat.{ℕ}
-use mathlib.Core.Path.{_≡_}
-use mathlib.Core.Bool.{cond, _||_, not}
-use mathlib.Core.List.{List, [], _∷_}
 use lib.Dec.{ltb, eqb}
 use lib.ListN.{length}
+use mathlib.Core.Bool.{cond, _||_, not}
+use mathlib.Core.List.{List, [], _∷_}
+use mathlib.Core.Path.{_≡_}
 use Rattle.condition.specs.First.{Rule, _when_, firstOf}
-use Rattle.lent.specs.Buffer.{unlessRefused}
 use Rattle.controller.specs.declared.registers.Mode.{Mode}
+use Rattle.lent.specs.Buffer.{unlessRefused}
 use Rattle.size.specs.Size.{hasDigits, bytesOf}
+use Rattle.drawing.specs.Drawing.{drawingOf}
 use Rattle.drawing.specs.declared.Answer.{Answer}
 use Rattle.drawing.specs.declared.Answer.the-variants.{Done, BadDigits, ShortBuffer}
 use Rattle.drawing.specs.declared.form.Form.{Form}
-use Rattle.drawing.specs.Drawing.{drawingOf}
 
 abbrev pub numberOf : Answer → ℕ
 numberOf (Done n) = 0

@@ -1,14 +1,14 @@
 -- Helpers of contracts, not rules of the paper: how many bytes a drawing and its parts have.
 use Prim.Native.Nat.{ℕ, _+_, _*_, _/_}
 use lib.ListN.{length}
+use Rattle.controller.specs.declared.registers.Mode.{Mode}
 use Rattle.counters.specs.declared.LineMode.{LineMode}
 use Rattle.counters.specs.declared.LineMode.the-variants.{One, Two}
-use Rattle.controller.specs.declared.registers.Mode.{Mode}
 use Rattle.size.specs.Size.{rowsOf}
+use Rattle.drawing.specs.Drawing.{heightOf, headOf}
+use Rattle.drawing.specs.Row.{widthOf}
 use Rattle.drawing.specs.declared.form.Form.{Form}
 use Rattle.drawing.specs.declared.form.Form.the-variants.{Text, Image}
-use Rattle.drawing.specs.Row.{widthOf}
-use Rattle.drawing.specs.Drawing.{heightOf, headOf}
 
 unfoldable pub rowSize : Form → ℕ → ℕ
 rowSize Text digits = 6 * digits

@@ -1,16 +1,16 @@
 -- The whole drawing, from the picture's bytes: text, or a raw PBM image (P4).
 use Prim.Native.Nat.{ℕ, _+_, _*_, _-_}
-use mathlib.Core.List.{List, [], _++_}
 use lib.ListN.{getD}
+use mathlib.Core.List.{List, [], _++_}
+use Rattle.controller.specs.declared.registers.Mode.{Mode}
 use Rattle.counters.specs.declared.LineMode.{LineMode}
 use Rattle.counters.specs.declared.LineMode.the-variants.{One, Two}
 use Rattle.lent.specs.Lists.{parts}
-use Rattle.controller.specs.declared.registers.Mode.{Mode}
 use Rattle.size.specs.Size.{linesOf, rowsOf}
 use Rattle.text.specs.Text.{textOf, decimalOf}
+use Rattle.drawing.specs.Row.{widthOf, textRow, imageRow}
 use Rattle.drawing.specs.declared.form.Form.{Form}
 use Rattle.drawing.specs.declared.form.Form.the-variants.{Text, Image}
-use Rattle.drawing.specs.Row.{widthOf, textRow, imageRow}
 
 -- one blank row between the picture's lines
 abbrev pub heightOf : Mode → ℕ

@@ -1,9 +1,9 @@
 -- One row of dots, from the byte of each digit: five columns a digit, and one blank column between digits.
-use Prim.Native.Nat.{ℕ, zero, suc, _+_, _*_, _-_, _/_, _%_, _^_}
 use Prim.Native.Char.{code}
+use Prim.Native.Nat.{ℕ, zero, suc, _+_, _*_, _-_, _/_, _%_, _^_}
+use lib.Dec.{ltb, eqb}
 use mathlib.Core.Bool.{Bool, cond, _&&_}
 use mathlib.Core.List.{List, _++_}
-use lib.Dec.{ltb, eqb}
 use Rattle.lent.specs.Lists.{values}
 use Rattle.text.specs.Text.{textOf}
 

@@ -1,16 +1,16 @@
 -- Theorems about a drawing; each is proved in proofs/.
 use Prim.Native.Nat.{ℕ, _≤_}
-use mathlib.Core.Path.{_≡_}
+use lib.ListN.{length}
 use mathlib.Core.Bool.{true}
 use mathlib.Core.List.{List}
-use lib.ListN.{length}
+use mathlib.Core.Path.{_≡_}
 use Rattle.condition.specs.First.{Exactly}
 use Rattle.controller.specs.declared.registers.Mode.{Mode}
 use Rattle.size.specs.Size.{hasDigits}
+use Rattle.drawing.specs.Answers.{numberOf, refusals, Drawing}
+use Rattle.drawing.specs.Drawing.{drawingOf, mostDrawn}
 use Rattle.drawing.specs.declared.Answer.{Answer}
 use Rattle.drawing.specs.declared.form.Form.{Form}
-use Rattle.drawing.specs.Drawing.{drawingOf, mostDrawn}
-use Rattle.drawing.specs.Answers.{numberOf, refusals, Drawing}
 
 -- two outcomes that the promise allows are equal, answer and buffer
 abbrev pub DrawingSettled : Type 0

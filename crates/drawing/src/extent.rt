@@ -1,10 +1,10 @@
 // How many bytes a drawing and its parts have.
 ghost use Prim.Native.Nat.{_*_, _≤_, _<_};
-ghost use mathlib.Core.Path.{_≡_};
 ghost use lib.ListN.{length};
+ghost use mathlib.Core.Path.{_≡_};
 ghost use Rattle.size.specs.Size.{rowsOf};
-ghost use Rattle.drawing.specs.Drawing.{heightOf, headOf, mostDrawn};
 ghost use Rattle.drawing.specs.Contracts.{rowSize, gapSize, linesSize, sizeOf};
+ghost use Rattle.drawing.specs.Drawing.{heightOf, headOf, mostDrawn};
 use super::form::Form;
 use super::row::width;
 use controller::registers::Mode;

@@ -1,11 +1,11 @@
 // The lines of the picture, one behind the other.
 ghost use Prim.Native.Nat.{_+_, _*_, _≤_};
-ghost use mathlib.Core.Path.{_≡_};
 ghost use lib.ListN.{length};
+ghost use mathlib.Core.Path.{_≡_};
 ghost use Rattle.counters.specs.declared.LineMode.the-variants.{Two};
 ghost use Rattle.size.specs.Size.{rowsOf, bytesOf};
-ghost use Rattle.drawing.specs.Drawing.{gapIn, between, lineIn, drawingOf};
 ghost use Rattle.drawing.specs.Contracts.{rowSize, gapSize, linesSize, sizeOf};
+ghost use Rattle.drawing.specs.Drawing.{gapIn, between, lineIn, drawingOf};
 use super::extent::gap_size;
 use super::extent::height;
 use super::extent::row_size;

@@ -1,10 +1,10 @@
 // One row of dots, as text or as bits.
 ghost use Prim.Native.Nat.{_+_, _≤_, _<_, _/_};
-ghost use mathlib.Core.Path.{_≡_};
 ghost use lib.ListN.{length, getD};
-ghost use Rattle.drawing.specs.Row.{widthOf, isOn, markOf, textRow, bitAt, packed, imageRow};
-ghost use Rattle.drawing.specs.Drawing.{rowIn, gapIn};
+ghost use mathlib.Core.Path.{_≡_};
 ghost use Rattle.drawing.specs.Contracts.{rowSize, gapSize};
+ghost use Rattle.drawing.specs.Drawing.{rowIn, gapIn};
+ghost use Rattle.drawing.specs.Row.{widthOf, isOn, markOf, textRow, bitAt, packed, imageRow};
 use super::form::Form;
 
 // Leftmost dot is bit 4; the sixth column of a digit is blank.

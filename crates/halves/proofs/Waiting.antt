@@ -1,17 +1,16 @@
 -- A half that waits is below 16, the half of a read is 0; what is completed and answered, by the line count.
 use Prim.Native.Nat.{ℕ, _+_, _*_, _≤_}
-use mathlib.Core.Path.{_≡_, refl}
-use mathlib.Core.Bool.{Bool, true, false, cond}
-use native.Mathlib.Omega.{arith}
 use lib.Dec.{T, leb, leb→le, le→leb}
+use mathlib.Core.Bool.{Bool, true, false, cond}
+use mathlib.Core.Path.{_≡_, refl}
+use native.Mathlib.Omega.{arith}
 use Rattle.condition.proofs.Tests.{and-right}
-use Rattle.event.specs.declared.Kind.{Kind}
 use Rattle.event.specs.Kind.{isRead}
+use Rattle.halves.specs.Halves.{upper, lower, isFour, mostHalf, halfFits, upperOf, isFirst, completed, answered}
+use Rattle.halves.specs.Theorems.{UpperFits, FirstFits}
 use Rattle.halves.specs.declared.Half.{Half}
 use Rattle.halves.specs.declared.LineCount.{LineCount}
 use Rattle.halves.specs.declared.LineCount.the-variants.{Eight, Four}
-use Rattle.halves.specs.Halves.{upper, lower, isFour, mostHalf, halfFits, upperOf, isFirst, completed, answered}
-use Rattle.halves.specs.Theorems.{UpperFits, FirstFits}
 
 most-half-small : (read : Bool) → cond read 0 15 ≤ 15
 most-half-small true = omega arith

@@ -1,9 +1,9 @@
 -- "Halves": on four lines only the upper four lines count; the upper half of a byte comes first.
 use Prim.Native.Nat.{ℕ, _+_, _*_, _/_, _%_}
-use mathlib.Core.Bool.{Bool, true, false, cond, _&&_, not}
 use lib.Dec.{leb}
-use Rattle.event.specs.declared.Kind.{Kind}
+use mathlib.Core.Bool.{Bool, true, false, cond, _&&_, not}
 use Rattle.event.specs.Kind.{isRead, alike}
+use Rattle.event.specs.declared.Kind.{Kind}
 use Rattle.halves.specs.declared.Half.{Half}
 use Rattle.halves.specs.declared.Half.the-variants.{Nothing, Waiting}
 use Rattle.halves.specs.declared.LineCount.{LineCount}

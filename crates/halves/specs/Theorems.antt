@@ -1,12 +1,10 @@
 -- What is proved of halves beside the promises.
 use Prim.Native.Nat.{ℕ, _≤_}
-use mathlib.Core.Path.{_≡_}
-use mathlib.Core.Bool.{true}
 use lib.Dec.{T}
 use Rattle.event.specs.declared.Kind.{Kind}
+use Rattle.halves.specs.Halves.{halfFits, heldBy, upperOf, isFirst}
 use Rattle.halves.specs.declared.Half.{Half}
 use Rattle.halves.specs.declared.LineCount.{LineCount}
-use Rattle.halves.specs.Halves.{halfFits, heldBy, upperOf, isFirst}
 
 -- a half that can wait is 0 to 15
 abbrev pub UpperFits : Type 0

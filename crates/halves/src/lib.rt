@@ -1,6 +1,6 @@
 // Halves: the lines of the bus, the half of a byte that waits on four, and what a transfer completes.
-ghost use mathlib.Core.Path.{_≡_};
 ghost use Prim.Native.Nat.{_≤_};
+ghost use mathlib.Core.Path.{_≡_};
 ghost use Rattle.halves.specs.Halves.{isFour, mostHalf, halfFits, heldBy, isFirst, disagrees as disagreesWith, upperOf, completed as completedBy, answered as answeredOn};
 use event::Kind;
 

@@ -1,21 +1,21 @@
 -- The nine ranges of the instruction byte: the tests of the lower ranges fail, and its own holds.
 use Prim.Native.Nat.{ℕ, _%_}
-use mathlib.Core.Path.{_≡_, refl}
-use mathlib.Core.Bool.{Bool}
-use native.Mathlib.Omega.{arith}
-use lib.Dec.{ltb, ltb→lt, nltb→le}
 use borrow.Author.Tests.{lt-ltb, le-ltb}
+use lib.Dec.{ltb, ltb→lt, nltb→le}
+use mathlib.Core.Bool.{Bool}
+use mathlib.Core.Path.{_≡_}
+use native.Mathlib.Omega.{arith}
 use Rattle.condition.proofs.Tests.{split}
-use Rattle.counters.specs.declared.address.DisplayAddress.{DisplayAddress}
-use Rattle.counters.specs.Address.{character}
-use Rattle.halves.specs.declared.LineCount.{LineCount}
-use Rattle.controller.specs.declared.registers.Mode.{Mode}
 use Rattle.controller.specs.declared.registers.Entry.{Entry}
 use Rattle.controller.specs.declared.registers.Lights.{Lights}
-use Rattle.instructions.specs.declared.instruction.Instruction.{Instruction}
-use Rattle.instructions.specs.declared.instruction.Instruction.the-variants.{Nothing, Clear, Home, EntryMode, OnOff, Move, FunctionSet, SetCharacter, SetDisplay}
+use Rattle.controller.specs.declared.registers.Mode.{Mode}
+use Rattle.counters.specs.Address.{character}
+use Rattle.counters.specs.declared.address.DisplayAddress.{DisplayAddress}
+use Rattle.halves.specs.declared.LineCount.{LineCount}
 use Rattle.instructions.specs.Instructions.{decode}
 use Rattle.instructions.specs.Theorems.{DecodedByRange}
+use Rattle.instructions.specs.declared.instruction.Instruction.{Instruction}
+use Rattle.instructions.specs.declared.instruction.Instruction.the-variants.{Nothing, Clear, Home, EntryMode, OnOff, Move, FunctionSet, SetCharacter, SetDisplay}
 
 pub decoded-by-range : DecodedByRange
 unfolding decode

@@ -1,21 +1,21 @@
 -- What the nine rows have in common: no half is left, and only Clear changes a memory.
 use Prim.Native.Nat.{ℕ}
-use mathlib.Core.Path.{_≡_, _∙_, ap, refl, subst⁻¹}
-use mathlib.Core.Bool.{Bool, true, false, cond, not, _||_}
 use lib.Dec.{T, eqb, eqb→eq, lit≤}
+use mathlib.Core.Bool.{Bool, true, false, cond, not, _||_}
+use mathlib.Core.Path.{_≡_, _∙_, ap, refl, subst⁻¹}
 use Rattle.condition.proofs.Tests.{split, holds, neqb→ne}
-use Rattle.halves.specs.declared.Half.{Half}
-use Rattle.halves.specs.declared.LineCount.{LineCount}
-use Rattle.controller.specs.declared.registers.Mode.{Mode}
-use Rattle.controller.specs.declared.registers.Registers.{Registers}
 use Rattle.controller.specs.Memory.{Change}
 use Rattle.controller.specs.Part.{awaiting}
 use Rattle.controller.specs.Result.{Result}
+use Rattle.controller.specs.declared.registers.Mode.{Mode}
+use Rattle.controller.specs.declared.registers.Registers.{Registers}
+use Rattle.halves.specs.declared.Half.{Half}
+use Rattle.halves.specs.declared.LineCount.{LineCount}
+use Rattle.instructions.specs.Instructions.{decode, moved, rearranged, rowOf, obey}
+use Rattle.instructions.specs.Theorems.{LeavesNoHalf, AnswersDoneOrThree, OnlyClearChanges, TicksFit}
 use Rattle.instructions.specs.declared.instruction.Instruction.{Instruction}
 use Rattle.instructions.specs.declared.instruction.Instruction.the-variants.{Nothing, Clear, Home, EntryMode, OnOff, Move, FunctionSet, SetCharacter, SetDisplay}
-use Rattle.instructions.specs.Instructions.{decode, moved, rearranged, rowOf, obey}
 use Rattle.instructions.proofs.Decoded.{of-decoded}
-use Rattle.instructions.specs.Theorems.{LeavesNoHalf, AnswersDoneOrThree, OnlyClearChanges, TicksFit}
 
 -- ---- one obeyed instruction is done, or refused with 3
 pub leaves-no-half : LeavesNoHalf

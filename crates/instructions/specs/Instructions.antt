@@ -1,18 +1,18 @@
 -- "Instructions": the table, a row for each of the nine, in the paper's order.
 use Prim.Native.Nat.{ℕ, _/_, _%_, _^_}
-use mathlib.Core.Bool.{Bool, true, false, cond, not}
 use lib.Dec.{ltb, eqb}
-use Rattle.counters.specs.declared.LineMode.{LineMode}
-use Rattle.counters.specs.declared.LineMode.the-variants.{One, Two}
-use Rattle.counters.specs.declared.counter.Counter.the-variants.{Display, Character}
-use Rattle.counters.specs.Address.{display, character, hasDisplay}
-use Rattle.counters.specs.Shift.{shift}
-use Rattle.halves.specs.declared.LineCount.{LineCount}
-use Rattle.halves.specs.declared.LineCount.the-variants.{Eight, Four}
-use Rattle.controller.specs.declared.registers.Registers.{Registers}
+use mathlib.Core.Bool.{Bool, true, false, cond, not}
 use Rattle.controller.specs.Memory.{Change}
 use Rattle.controller.specs.Part.{placed, arranged, entered, lit, counterStepped, shiftMoved}
 use Rattle.controller.specs.Result.{Result, done, forgotten}
+use Rattle.controller.specs.declared.registers.Registers.{Registers}
+use Rattle.counters.specs.Address.{display, character, hasDisplay}
+use Rattle.counters.specs.Shift.{shift}
+use Rattle.counters.specs.declared.LineMode.{LineMode}
+use Rattle.counters.specs.declared.LineMode.the-variants.{One, Two}
+use Rattle.counters.specs.declared.counter.Counter.the-variants.{Display, Character}
+use Rattle.halves.specs.declared.LineCount.{LineCount}
+use Rattle.halves.specs.declared.LineCount.the-variants.{Eight, Four}
 use Rattle.instructions.specs.declared.instruction.Instruction.{Instruction}
 use Rattle.instructions.specs.declared.instruction.Instruction.the-variants.{Nothing, Clear, Home, EntryMode, OnOff, Move, FunctionSet, SetCharacter, SetDisplay}
 

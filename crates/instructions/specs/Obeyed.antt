@@ -1,9 +1,9 @@
 -- For the contract of `row_of` alone, no rule: a row of the table as the code has it.
-use Rattle.halves.specs.declared.Half.{Half}
 use Rattle.controller.specs.Answers.{saidOf}
 use Rattle.controller.specs.Memory.{Change}
 use Rattle.controller.specs.Part.{awaiting}
 use Rattle.controller.specs.Result.{Result}
+use Rattle.halves.specs.declared.Half.{Half}
 use Rattle.instructions.specs.declared.obey.Obeyed.{Obeyed}
 
 -- what it comes to once the half is forgotten

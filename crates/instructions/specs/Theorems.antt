@@ -1,18 +1,18 @@
 -- What is proved of the instructions beside the promises.
 use Prim.Native.Nat.{ℕ, _<_, _≤_, _%_}
-use mathlib.Core.Path.{_≡_}
-use mathlib.Core.Bool.{not, _||_}
 use lib.Dec.{T, eqb}
-use Rattle.counters.specs.Address.{character, display}
-use Rattle.halves.specs.declared.Half.{Half}
-use Rattle.controller.specs.declared.effect.Effect.{Effect}
-use Rattle.controller.specs.declared.registers.Registers.{Registers}
+use mathlib.Core.Bool.{not, _||_}
+use mathlib.Core.Path.{_≡_}
 use Rattle.controller.specs.Memory.{Change}
 use Rattle.controller.specs.Part.{longest}
 use Rattle.controller.specs.Result.{resultOf}
+use Rattle.controller.specs.declared.effect.Effect.{Effect}
+use Rattle.controller.specs.declared.registers.Registers.{Registers}
+use Rattle.counters.specs.Address.{character, display}
+use Rattle.halves.specs.declared.Half.{Half}
+use Rattle.instructions.specs.Instructions.{bit, lineCount, lineMode, decode, rowOf, obey}
 use Rattle.instructions.specs.declared.instruction.Instruction.{Instruction}
 use Rattle.instructions.specs.declared.instruction.Instruction.the-variants.{Nothing, Clear, Home, EntryMode, OnOff, Move, FunctionSet, SetCharacter, SetDisplay}
-use Rattle.instructions.specs.Instructions.{bit, lineCount, lineMode, decode, rowOf, obey}
 
 -- ---- the byte's ranges
 pub record ByRange (b : ℕ) : Type 0 where

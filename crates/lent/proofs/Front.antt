@@ -1,9 +1,9 @@
 -- Laws of bytes put at the front of a buffer: put at place 0, they are over it.
 use Prim.Native.Nat.{ℕ}
-use mathlib.Core.Path.{_≡_, sym, _∙_}
-use mathlib.Core.List.{List}
-use native.Mathlib.Nat.{zero-add}
 use lib.ListN.{length}
+use mathlib.Core.List.{List}
+use mathlib.Core.Path.{_≡_, sym, _∙_}
+use native.Mathlib.Nat.{zero-add}
 use Rattle.lent.specs.Buffer.{over, unlessRefused}
 use Rattle.lent.specs.Put.{putAt, Puts}
 use Rattle.lent.proofs.Left.{done-writes}

@@ -1,15 +1,15 @@
 -- Laws of all lines of a picture: how long it is, and that with the display off it is all zeros.
 use Prim.Native.Nat.{ℕ, _*_}
-use mathlib.Core.Path.{_≡_, _∙_}
+use lib.ListN.{length, replicate}
 use mathlib.Core.Bool.{false}
 use mathlib.Core.List.{List}
+use mathlib.Core.Path.{_≡_, _∙_}
 use native.Mathlib.Nat.{mul-assoc}
-use lib.ListN.{length, replicate}
-use Rattle.lent.proofs.Lists.{length-parts, length-values, parts-same, parts-replicate, values-same, values-replicate}
 use Rattle.controller.specs.declared.Controller.{Controller}
-use Rattle.size.specs.Size.{rowsOf, bytesOf}
-use Rattle.dots.specs.declared.phase.Phase.{Phase}
 use Rattle.dots.specs.Dots.{cellDots, dotsAt, lineOf}
+use Rattle.dots.specs.declared.phase.Phase.{Phase}
+use Rattle.lent.proofs.Lists.{length-parts, length-values, parts-same, parts-replicate, values-same, values-replicate}
+use Rattle.size.specs.Size.{rowsOf, bytesOf}
 use Rattle.picture.specs.Picture.{pictureOf}
 
 pub length-picture : (c : Controller) (digits : ℕ) (rom : List ℕ) (phase : Phase) → length (pictureOf c digits rom phase) ≡ bytesOf (c .registers .mode) digits

@@ -1,30 +1,30 @@
 -- Laws of the promise: what the tests of a call tell, and what each answer leaves.
 use Prim.Native.Nat.{ℕ, _<_}
-use mathlib.Core.Path.{_≡_, sym, _∙_}
-use mathlib.Core.Bool.{true, false}
-use mathlib.Core.List.{List, _++_}
-use native.Mathlib.Omega.{arith}
 use lib.Dec.{T, eqb, leb→le}
 use lib.ListN.{length, drop}
+use mathlib.Core.Bool.{true, false}
+use mathlib.Core.List.{List, _++_}
+use mathlib.Core.Path.{_≡_, sym, _∙_}
+use native.Mathlib.Omega.{arith}
 use Rattle.condition.proofs.Tests.{holds}
+use Rattle.controller.proofs.Ranged.{facts}
+use Rattle.controller.specs.Part.{inRange}
+use Rattle.controller.specs.declared.Controller.{Controller}
+use Rattle.controller.specs.declared.registers.Registers.{Registers}
+use Rattle.counters.specs.Shift.{lastShift, hasShift}
 use Rattle.counters.specs.declared.LineMode.{LineMode}
 use Rattle.counters.specs.declared.LineMode.the-variants.{One, Two}
 use Rattle.counters.specs.declared.shift.Shift.{Shift}
-use Rattle.counters.specs.Shift.{lastShift, hasShift}
-use Rattle.lent.proofs.Left.{refused-keeps, done-writes-all}
-use Rattle.controller.specs.declared.Controller.{Controller}
-use Rattle.controller.specs.declared.registers.Registers.{Registers}
-use Rattle.controller.specs.Part.{inRange}
-use Rattle.controller.proofs.Ranged.{facts}
-use Rattle.size.specs.Size.{mostDigits, bytesOf, hasDigits}
-use Rattle.size.proofs.Sizes.{digits-counted}
-use Rattle.dots.specs.declared.phase.Phase.{Phase}
-use Rattle.dots.specs.Dots.{imageSize}
 use Rattle.dots.specs.Contracts.{Drawable}
+use Rattle.dots.specs.Dots.{imageSize}
+use Rattle.dots.specs.declared.phase.Phase.{Phase}
+use Rattle.lent.proofs.Left.{refused-keeps, done-writes-all}
+use Rattle.size.proofs.Sizes.{digits-counted}
+use Rattle.size.specs.Size.{mostDigits, bytesOf, hasDigits}
+use Rattle.picture.specs.Answers.{numberOf, answerFor, bufferFor, Pictured}
+use Rattle.picture.specs.Picture.{pictureOf}
 use Rattle.picture.specs.declared.Answer.{Answer}
 use Rattle.picture.specs.declared.Answer.the-variants.{Done}
-use Rattle.picture.specs.Picture.{pictureOf}
-use Rattle.picture.specs.Answers.{numberOf, answerFor, bufferFor, Pictured}
 use Rattle.picture.proofs.Lines.{length-picture}
 
 -- ---- what the tests tell

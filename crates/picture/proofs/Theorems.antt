@@ -1,37 +1,37 @@
 -- The theorems about the picture: from its bytes by index, and from what its dots depend on.
 use Prim.Native.Nat.{ℕ, zero, suc, _+_, _*_, _-_, _<_, _≤_}
-use mathlib.Core.Path.{_≡_, refl, ap, sym, _∙_}
-use mathlib.Core.Bool.{Bool, true, false, cond, _&&_, not}
-use mathlib.Core.List.{List, [], _∷_, _++_}
-use native.Mathlib.Nat.{mul-assoc, add-mul, add-assoc}
-use native.Mathlib.Omega.{arith}
+use borrow.Author.Tests.{ne-eqb}
 use lib.Arith.{digits-lt}
 use lib.Dec.{T, ltb, ltb→lt, nltb→le}
 use lib.ListN.{length, drop, getD, length-append, length-drop, List·getD-append}
 use lib.Seq.{getD-drop, getD-append-add, getD-set-other}
-use borrow.Author.Tests.{ne-eqb}
-use Rattle.condition.specs.First.{Rule, firstOf, absent, distinct}
-use Rattle.condition.proofs.Tests.{split, and-left, and-right}
+use mathlib.Core.Bool.{Bool, true, false, cond, _&&_, not}
+use mathlib.Core.List.{List, [], _∷_, _++_}
+use mathlib.Core.Path.{_≡_, refl, ap, sym, _∙_}
+use native.Mathlib.Nat.{mul-assoc, add-mul, add-assoc}
+use native.Mathlib.Omega.{arith}
 use Rattle.condition.proofs.First.{first-given-exactly}
-use Rattle.counters.specs.declared.LineMode.the-variants.{Two}
-use Rattle.counters.specs.declared.address.Cell.{Cell}
-use Rattle.counters.specs.Address.{addressOf}
-use Rattle.counters.specs.Counter.{numberOn}
-use Rattle.lent.specs.Buffer.{over}
-use Rattle.lent.specs.Lists.{values, parts}
-use Rattle.lent.proofs.Left.{done-writes}
-use Rattle.lent.proofs.Lists.{length-parts, length-values, parts-same, parts-at, values-same, values-at}
+use Rattle.condition.proofs.Tests.{split, and-left, and-right}
+use Rattle.condition.specs.First.{Rule, firstOf, absent, distinct}
+use Rattle.controller.specs.Part.{inRange}
 use Rattle.controller.specs.declared.Controller.{Controller}
 use Rattle.controller.specs.declared.registers.Mode.{Mode}
-use Rattle.controller.specs.Part.{inRange}
-use Rattle.size.specs.Size.{linesOf, rowsOf, bytesOf}
-use Rattle.dots.specs.declared.phase.Phase.{Phase}
+use Rattle.counters.specs.Address.{addressOf}
+use Rattle.counters.specs.Counter.{numberOn}
+use Rattle.counters.specs.declared.LineMode.the-variants.{Two}
+use Rattle.counters.specs.declared.address.Cell.{Cell}
 use Rattle.dots.specs.Digit.{shownOn}
 use Rattle.dots.specs.Dots.{isMarked, fiveOf, cellDots, dotsAt, lineOf}
-use Rattle.picture.specs.declared.Answer.the-variants.{Done}
-use Rattle.picture.specs.Picture.{pictureOf}
+use Rattle.dots.specs.declared.phase.Phase.{Phase}
+use Rattle.lent.proofs.Left.{done-writes}
+use Rattle.lent.proofs.Lists.{length-parts, length-values, parts-same, parts-at, values-same, values-at}
+use Rattle.lent.specs.Buffer.{over}
+use Rattle.lent.specs.Lists.{values, parts}
+use Rattle.size.specs.Size.{linesOf, rowsOf, bytesOf}
 use Rattle.picture.specs.Answers.{refusals, answerFor, bufferFor, Pictured}
+use Rattle.picture.specs.Picture.{pictureOf}
 use Rattle.picture.specs.Theorems.{PictureGivenExactly, ByteByByte, RestStays, SameScreen, OnlyTheScreenMatters, DisplayOffIsZeros, FiveBitsOnly, storedIn, OnlyShownCellsMatter, GapMarksNothing}
+use Rattle.picture.specs.declared.Answer.the-variants.{Done}
 use Rattle.picture.proofs.Lines.{length-picture, off-dots}
 
 -- ---- exactly when

@@ -1,20 +1,20 @@
 -- "Refusal numbers": this paper's number for each answer to a picture, when it is given, and what a call leaves.
 use Prim.Native.Nat.{ℕ}
-use mathlib.Core.Path.{_≡_}
-use mathlib.Core.Bool.{not}
-use mathlib.Core.List.{List, [], _∷_}
 use lib.Dec.{ltb, eqb}
 use lib.ListN.{length}
+use mathlib.Core.Bool.{not}
+use mathlib.Core.List.{List, [], _∷_}
+use mathlib.Core.Path.{_≡_}
 use Rattle.condition.specs.First.{Rule, _when_, firstOf}
-use Rattle.lent.specs.Buffer.{unlessRefused}
-use Rattle.controller.specs.declared.Controller.{Controller}
 use Rattle.controller.specs.Part.{inRange}
-use Rattle.size.specs.Size.{hasDigits, bytesOf}
-use Rattle.dots.specs.declared.phase.Phase.{Phase}
+use Rattle.controller.specs.declared.Controller.{Controller}
 use Rattle.dots.specs.Dots.{imageSize}
+use Rattle.dots.specs.declared.phase.Phase.{Phase}
+use Rattle.lent.specs.Buffer.{unlessRefused}
+use Rattle.size.specs.Size.{hasDigits, bytesOf}
+use Rattle.picture.specs.Picture.{pictureOf}
 use Rattle.picture.specs.declared.Answer.{Answer}
 use Rattle.picture.specs.declared.Answer.the-variants.{Done, BadDigits, BadImage, ShortBuffer, NotInRange}
-use Rattle.picture.specs.Picture.{pictureOf}
 
 abbrev pub numberOf : Answer → ℕ
 numberOf Done = 0

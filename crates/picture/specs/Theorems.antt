@@ -1,24 +1,24 @@
 -- Theorems about the picture; each is proved in proofs/.
 use Prim.Native.Nat.{ℕ, _+_, _*_, _<_, _≤_}
-use mathlib.Core.Path.{_≡_}
+use lib.ListN.{length, getD, set, replicate}
 use mathlib.Core.Bool.{true, false}
 use mathlib.Core.List.{List}
-use lib.ListN.{length, getD, set, replicate}
+use mathlib.Core.Path.{_≡_}
 use Rattle.condition.specs.First.{Exactly}
-use Rattle.counters.specs.declared.LineMode.the-variants.{Two}
-use Rattle.counters.specs.declared.address.Cell.{Cell}
-use Rattle.counters.specs.Counter.{numberOn}
+use Rattle.controller.specs.Part.{inRange}
 use Rattle.controller.specs.declared.Controller.{Controller}
 use Rattle.controller.specs.declared.registers.Registers.{Registers}
-use Rattle.controller.specs.Part.{inRange}
-use Rattle.size.specs.Size.{linesOf, rowsOf, bytesOf}
-use Rattle.dots.specs.declared.phase.Phase.{Phase}
+use Rattle.counters.specs.Counter.{numberOn}
+use Rattle.counters.specs.declared.LineMode.the-variants.{Two}
+use Rattle.counters.specs.declared.address.Cell.{Cell}
 use Rattle.dots.specs.Digit.{shownOn}
 use Rattle.dots.specs.Dots.{isMarked, dotsAt}
+use Rattle.dots.specs.declared.phase.Phase.{Phase}
+use Rattle.size.specs.Size.{linesOf, rowsOf, bytesOf}
+use Rattle.picture.specs.Answers.{numberOf, refusals, answerFor, bufferFor, Pictured}
+use Rattle.picture.specs.Picture.{pictureOf}
 use Rattle.picture.specs.declared.Answer.{Answer}
 use Rattle.picture.specs.declared.Answer.the-variants.{Done}
-use Rattle.picture.specs.Picture.{pictureOf}
-use Rattle.picture.specs.Answers.{numberOf, refusals, answerFor, bufferFor, Pictured}
 
 -- two outcomes that the promise allows are equal, answer and buffer
 abbrev pub PictureSettled : Type 0

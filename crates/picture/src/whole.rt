@@ -1,9 +1,9 @@
 // The whole picture: its lines, one behind the other, or all zeros.
-ghost use mathlib.Core.Path.{_≡_};
-ghost use mathlib.Core.Bool.{true};
 ghost use lib.ListN.{length, replicate};
-ghost use Rattle.size.specs.Size.{bytesOf};
+ghost use mathlib.Core.Bool.{true};
+ghost use mathlib.Core.Path.{_≡_};
 ghost use Rattle.dots.specs.Contracts.{Drawable};
+ghost use Rattle.size.specs.Size.{bytesOf};
 ghost use Rattle.picture.specs.Picture.{pictureOf};
 use controller::Controller;
 use dots::Phase;

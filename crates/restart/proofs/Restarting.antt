@@ -1,63 +1,36 @@
 -- The twelve writes lead from all registers in range to the same registers, by laws of the transfer and of the instructions.
-use Prim.Native.Nat.{ℕ, zero, suc, _+_, _-_, _*_, _/_, _≤_, _<_, _%_}
-use mathlib.Core.Path.{_≡_, _∙_, ap, refl, subst, subst⁻¹, sym}
-use mathlib.Core.Logic.{_⊎_, _≢_, _↔_, ⊎-elim, inl, inr}
-use mathlib.Core.Bool.{Bool, true, false, cond, not, _&&_, _||_, Bool·beq}
-use mathlib.Core.List.{List, [], _∷_, _++_}
+use Prim.Native.Nat.{ℕ, zero, suc, _+_, _*_, _/_, _≤_, _<_, _%_}
+use lib.Dec.{T, not-T, ltb, eqb, eqb→eq, ltb→lt}
+use lib.ListN.{drop, take}
+use mathlib.Core.Bool.{Bool, true, false, not, _||_}
+use mathlib.Core.List.{List, [], _∷_}
+use mathlib.Core.Path.{_≡_, _∙_, ap, refl, subst⁻¹}
 use native.Mathlib.Omega.{arith}
-use lib.Dec.{T, not-T, ltb, leb, eqb, leb→le, le→leb, eqb→eq, eqb-refl, T-not, lit≤, ltb→lt, lt→ltb}
-use lib.ListN.{getD, set, replicate, drop, take, length}
-use lib.Seq.{getD-set-other}
-use Rattle.condition.specs.First.{Rule, _when_, firstOf, Exactly}
-use Rattle.condition.proofs.First.{first-given-exactly}
-use Rattle.condition.proofs.Tests.{is-true, holds, not-not, and-left, and-right, and-both, split, neqb→ne, met}
-use Rattle.counters.specs.declared.LineMode.{LineMode}
-use Rattle.counters.specs.declared.LineMode.the-variants.{One, Two}
-use Rattle.counters.specs.declared.counter.Counter.{Counter}
-use Rattle.counters.specs.declared.counter.Counter.the-variants.{Display, Character}
-use Rattle.counters.specs.declared.shift.Shift.{Shift}
-use Rattle.counters.specs.Address.{display, hasDisplay, hasCharacter, cellOf}
-use Rattle.counters.specs.Counter.{hasCounter, stepOf}
-use Rattle.counters.specs.Shift.{shift, hasShift}
-use Rattle.counters.proofs.Laws.{home-exists, no-shift-exists, step-exists, move-exists}
-use Rattle.event.specs.declared.Event.{Event}
-use Rattle.event.specs.declared.Event.the-variants.{Transfer, Wait}
+use Rattle.bus.proofs.Free.{freed, on-eight, first-waits, second-completes, other-disagrees}
+use Rattle.controller.specs.Memory.{Change}
+use Rattle.controller.specs.Part.{awaiting}
+use Rattle.controller.specs.Result.{Result, forgotten}
+use Rattle.controller.specs.declared.registers.Mode.{Mode}
+use Rattle.controller.specs.declared.registers.Registers.{Registers}
+use Rattle.counters.specs.Address.{display}
+use Rattle.counters.specs.Shift.{shift}
+use Rattle.counters.specs.declared.LineMode.the-variants.{Two}
+use Rattle.counters.specs.declared.counter.Counter.the-variants.{Display}
 use Rattle.event.specs.declared.Kind.{Kind}
 use Rattle.event.specs.declared.Kind.the-variants.{InstructionWrite, DataWrite, StatusRead, DataRead}
-use Rattle.event.specs.Kind.{isRead, isStatus, alike}
+use Rattle.halves.specs.Halves.{upper, isFour, halfFits}
 use Rattle.halves.specs.declared.Half.{Half}
 use Rattle.halves.specs.declared.LineCount.{LineCount}
 use Rattle.halves.specs.declared.LineCount.the-variants.{Eight, Four}
-use Rattle.halves.specs.Halves.{upper, lower, isFour, halfFits, heldBy, upperOf, isFirst, disagrees, completed, answered}
-use Rattle.halves.proofs.Waiting.{first-fits}
-use Rattle.controller.specs.declared.Controller.{Controller}
-use Rattle.controller.specs.declared.answer.Answer.{Answer}
-use Rattle.controller.specs.declared.answer.Answer.the-variants.{Done, FirstHalf, Busy, HalvesDisagree, NoSuchAddress, NotInRange}
-use Rattle.controller.specs.declared.effect.Effect.{Effect}
-use Rattle.controller.specs.declared.registers.Registers.{Registers}
-use Rattle.controller.specs.Answers.{Said, saying, refused, saidOf}
-use Rattle.controller.specs.Memory.{Change, byteAt, storeAt, displayAfter, characterAfter}
-use Rattle.controller.specs.Part.{placed, awaiting, counterStepped, with, waited, longest, inRange, freshRegisters, freshWith, switchedOn}
-use Rattle.controller.specs.Result.{Result, done, forgotten, leaving}
-use Rattle.controller.specs.Told.{Told, toldWith, addressed, carried, unchanged}
-use Rattle.controller.proofs.Ranged.{InRange, facts, test}
-use Rattle.instructions.specs.declared.instruction.Instruction.{Instruction}
-use Rattle.instructions.specs.declared.instruction.Instruction.the-variants.{Nothing, Clear, Home, EntryMode, OnOff, Move, FunctionSet, SetCharacter, SetDisplay}
-use Rattle.instructions.specs.Instructions.{bit, lineCount, lineMode, decode, moved, unlessChanged, rearranged, rowOf, obey}
 use Rattle.instructions.proofs.Decoded.{decoded-by-range}
 use Rattle.instructions.proofs.Rows.{leaves-no-half, answers-done-or-three, only-clear-changes, function-set-is-done, function-set-sets-lines, function-set-keeps-memories}
-use Rattle.step.specs.Data.{shiftAfter, writeData, readData, readStatus, readOf, statusOf, act}
-use Rattle.step.specs.Step.{firstHalf, secondHalf, onFour, onBus, refusedBusy, resultFor, stepped}
-use Rattle.step.proofs.Joined.{joined, bus-joined}
-use Rattle.bus.specs.Transfer.{told, transferOf, waitedTold, waitOf}
-use Rattle.bus.specs.Events.{toldBy, afterEvents, reached, waits, sum}
-use Rattle.controller.specs.declared.registers.Mode.{Mode}
-use Rattle.bus.proofs.Free.{freed, withBusy, waits-only-busy, transfer-steps, on-eight, first-waits, second-completes, other-disagrees}
-use Rattle.bus.proofs.Range.{step-in-range, range-kept, fresh-in-range, reached-in-range}
-use Rattle.bus.proofs.Busy.{waits-kept, waits-lower}
-use Rattle.restart.specs.Writes.{halves, Write, toldOf, Given, after, AtEach, patiently, patient, FourLines, lowerFrom, lowerLines, restartOf}
-use Rattle.restart.specs.Compared.{Holds, answers, freshLike}
+use Rattle.instructions.specs.Instructions.{bit, lineCount, lineMode, decode, rearranged, obey}
+use Rattle.instructions.specs.declared.instruction.Instruction.{Instruction}
+use Rattle.instructions.specs.declared.instruction.Instruction.the-variants.{Nothing, FunctionSet}
+use Rattle.step.specs.Step.{firstHalf, resultFor}
+use Rattle.restart.specs.Compared.{answers}
 use Rattle.restart.specs.Polling.{Calm}
+use Rattle.restart.specs.Writes.{halves}
 use Rattle.restart.proofs.Leads.{stepWith, Leads}
 
 -- ---- the bytes of the restart

@@ -1,13 +1,13 @@
 -- What the third statement compares: the two memories, the answers of the restart's writes, the fresh part, the pictures.
 use Prim.Native.Nat.{ℕ, zero, suc}
-use mathlib.Core.Path.{_≡_}
-use mathlib.Core.Bool.{Bool, _||_}
-use mathlib.Core.List.{List}
 use lib.Dec.{eqb}
 use lib.ListN.{length}
-use Rattle.controller.specs.declared.Controller.{Controller}
+use mathlib.Core.Bool.{Bool, _||_}
+use mathlib.Core.List.{List}
+use mathlib.Core.Path.{_≡_}
 use Rattle.controller.specs.Part.{freshWith}
 use Rattle.controller.specs.Told.{Told}
+use Rattle.controller.specs.declared.Controller.{Controller}
 use Rattle.dots.specs.declared.phase.Phase.{Phase}
 use Rattle.picture.specs.Answers.{answerFor, bufferFor}
 

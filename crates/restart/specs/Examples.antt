@@ -1,18 +1,18 @@
 -- "Proved examples": P1 to P11 as one list of cases, each from a part just switched on, busy waited out unless said.
 use Prim.Native.Nat.{ℕ}
-use mathlib.Core.Path.{_≡_}
-use mathlib.Core.List.{List, [], _∷_, _++_, map}
 use lib.ListN.{getD, replicate}
-use Rattle.counters.specs.declared.counter.Counter.{Counter}
-use Rattle.counters.specs.declared.counter.Counter.the-variants.{Display, Character}
-use Rattle.controller.specs.declared.Controller.{Controller}
+use mathlib.Core.List.{List, [], _∷_, _++_, map}
+use mathlib.Core.Path.{_≡_}
+use Rattle.bus.specs.Events.{toldBy, reached}
 use Rattle.controller.specs.Answers.{Said, saying}
 use Rattle.controller.specs.Part.{longest}
+use Rattle.controller.specs.declared.Controller.{Controller}
+use Rattle.counters.specs.declared.counter.Counter.{Counter}
+use Rattle.counters.specs.declared.counter.Counter.the-variants.{Display, Character}
+use Rattle.dots.specs.Digit.{shownOn}
 use Rattle.event.specs.declared.Event.{Event}
 use Rattle.event.specs.declared.Event.the-variants.{Transfer, Wait}
 use Rattle.event.specs.declared.Kind.the-variants.{InstructionWrite, DataWrite, StatusRead}
-use Rattle.bus.specs.Events.{toldBy, reached}
-use Rattle.dots.specs.Digit.{shownOn}
 
 -- what a case looks at afterwards
 pub data Look : Type 0 where

@@ -1,18 +1,18 @@
 -- "003's procedure polls the busy flag": status reads as two like halves between two of the last four bytes change nothing.
 use Prim.Native.Nat.{ℕ, _+_, _*_, _≤_}
-use mathlib.Core.Path.{_≡_}
-use mathlib.Core.List.{List, [], _∷_, _++_}
 use lib.Dec.{T}
 use lib.ListN.{take}
+use mathlib.Core.List.{List, [], _∷_}
+use mathlib.Core.Path.{_≡_}
+use Rattle.bus.specs.Events.{afterEvents, waits}
+use Rattle.controller.specs.Part.{inRange}
+use Rattle.controller.specs.declared.Controller.{Controller}
+use Rattle.controller.specs.declared.registers.Registers.{Registers}
 use Rattle.event.specs.declared.Event.{Event}
 use Rattle.event.specs.declared.Event.the-variants.{Transfer, Wait}
 use Rattle.event.specs.declared.Kind.the-variants.{StatusRead}
 use Rattle.halves.specs.declared.Half.{Half}
 use Rattle.halves.specs.declared.LineCount.{LineCount}
-use Rattle.controller.specs.declared.Controller.{Controller}
-use Rattle.controller.specs.declared.registers.Registers.{Registers}
-use Rattle.controller.specs.Part.{inRange}
-use Rattle.bus.specs.Events.{afterEvents, waits}
 use Rattle.restart.specs.Writes.{halves, Write, Given, after}
 
 -- what a client does before a write: it polls the busy flag with any numbers on the lines, or waits

@@ -1,16 +1,16 @@
 -- The third statement: whatever a part went through, the standard restart for four lines changes nothing in either memory,
 -- and from then on the part answers and shows exactly as one just switched on that was given the same two memories and the same restart.
 use Prim.Native.Nat.{ℕ}
-use mathlib.Core.Path.{_≡_}
-use mathlib.Core.List.{List}
 use lib.Dec.{T}
-use Rattle.event.specs.declared.Event.{Event}
-use Rattle.controller.specs.declared.Controller.{Controller}
-use Rattle.controller.specs.Part.{inRange}
-use Rattle.dots.specs.declared.phase.Phase.{Phase}
+use mathlib.Core.List.{List}
+use mathlib.Core.Path.{_≡_}
 use Rattle.bus.specs.Events.{afterEvents, reached, saidBy}
-use Rattle.restart.specs.Writes.{halves, Write, Given, after, AtEach, patient, FourLines, lowerLines, restartOf}
+use Rattle.controller.specs.Part.{inRange}
+use Rattle.controller.specs.declared.Controller.{Controller}
+use Rattle.dots.specs.declared.phase.Phase.{Phase}
+use Rattle.event.specs.declared.Event.{Event}
 use Rattle.restart.specs.Compared.{Holds, answers, freshLike, ShownAlike}
+use Rattle.restart.specs.Writes.{halves, Write, Given, after, AtEach, patient, FourLines, lowerLines, restartOf}
 
 -- what the restart does to the controller c
 pub record Restarts (c : Controller) : Type 0 where

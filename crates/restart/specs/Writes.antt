@@ -1,16 +1,16 @@
 -- "The standard restart": twelve writes with RS = 0, given after waits, and what each is answered.
 use Prim.Native.Nat.{ℕ, zero, suc, _+_, _*_, _%_, _<_}
-use mathlib.Core.Path.{_≡_}
+use lib.ListN.{getD}
 use mathlib.Core.Bool.{cond}
 use mathlib.Core.List.{List, [], _∷_}
-use lib.ListN.{getD}
-use Rattle.event.specs.declared.Kind.the-variants.{InstructionWrite}
-use Rattle.controller.specs.declared.Controller.{Controller}
+use mathlib.Core.Path.{_≡_}
+use Rattle.bus.specs.Events.{waits}
+use Rattle.bus.specs.Transfer.{transferOf}
 use Rattle.controller.specs.Answers.{saying}
 use Rattle.controller.specs.Part.{longest, inRange}
 use Rattle.controller.specs.Told.{Told, unchanged}
-use Rattle.bus.specs.Transfer.{transferOf}
-use Rattle.bus.specs.Events.{waits}
+use Rattle.controller.specs.declared.Controller.{Controller}
+use Rattle.event.specs.declared.Kind.the-variants.{InstructionWrite}
 
 -- first 3, 3, 3, 2 on the upper lines; then 28, 08, 02, 06 (hex), each as two halves
 abbrev pub halves : List ℕ

@@ -1,13 +1,13 @@
 -- Laws of sizes: what a count of digits that is there tells, and how large a picture can be.
 use Prim.Native.Nat.{ℕ, _*_, _≤_}
-use mathlib.Core.Path.{_≡_}
-use mathlib.Core.Bool.{Bool, true, false}
-use native.Mathlib.Omega.{arith}
 use lib.Dec.{leb, leb→le}
+use mathlib.Core.Bool.{Bool, true, false}
+use mathlib.Core.Path.{_≡_}
+use native.Mathlib.Omega.{arith}
 use Rattle.condition.proofs.Tests.{holds, and-left, and-right}
+use Rattle.controller.specs.declared.registers.Mode.{Mode}
 use Rattle.counters.specs.declared.LineMode.{LineMode}
 use Rattle.counters.specs.declared.LineMode.the-variants.{One, Two}
-use Rattle.controller.specs.declared.registers.Mode.{Mode}
 use Rattle.size.specs.Size.{linesOf, mostDigits, hasDigits, rowsIn, bytesOf, mostBytes}
 
 pub most-small : (lines : LineMode) → mostDigits lines ≤ 80

@@ -1,10 +1,10 @@
 -- "The picture": how many lines, digits, rows and bytes it has.
 use Prim.Native.Nat.{ℕ, _*_}
-use mathlib.Core.Bool.{Bool, cond, _&&_}
 use lib.Dec.{leb}
+use mathlib.Core.Bool.{Bool, cond, _&&_}
+use Rattle.controller.specs.declared.registers.Mode.{Mode}
 use Rattle.counters.specs.declared.LineMode.{LineMode}
 use Rattle.counters.specs.declared.LineMode.the-variants.{One, Two}
-use Rattle.controller.specs.declared.registers.Mode.{Mode}
 
 -- N = 0 is one line
 unfoldable pub linesOf : LineMode → ℕ

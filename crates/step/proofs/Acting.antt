@@ -1,27 +1,27 @@
 -- A whole byte of each kind, from what the code leaves to what the rule says.
 use Prim.Native.Nat.{ℕ}
-use mathlib.Core.Path.{_≡_, _∙_, ap, refl, sym}
-use mathlib.Core.Bool.{Bool, true, false, cond}
-use mathlib.Core.List.{List}
 use lib.Dec.{eqb}
 use lib.ListN.{replicate}
+use mathlib.Core.Bool.{Bool, true, false, cond}
+use mathlib.Core.List.{List}
+use mathlib.Core.Path.{_≡_, _∙_, ap, refl, sym}
 use Rattle.condition.proofs.Tests.{met}
-use Rattle.event.specs.declared.Kind.{Kind}
-use Rattle.event.specs.declared.Kind.the-variants.{InstructionWrite, DataWrite, StatusRead, DataRead}
-use Rattle.halves.specs.declared.Half.{Half}
-use Rattle.halves.specs.Halves.{answered}
-use Rattle.controller.specs.declared.Controller.{Controller}
-use Rattle.controller.specs.declared.answer.Answer.{Answer}
-use Rattle.controller.specs.declared.effect.Effect.{Effect}
-use Rattle.controller.specs.declared.registers.Registers.{Registers}
 use Rattle.controller.specs.Memory.{Change, storeAt, displayAfter, characterAfter}
 use Rattle.controller.specs.Part.{placed, awaiting, counterStepped, with}
 use Rattle.controller.specs.Result.{resultOf}
 use Rattle.controller.specs.Told.{toldWith, addressed}
-use Rattle.instructions.specs.Instructions.{decode, obey}
+use Rattle.controller.specs.declared.Controller.{Controller}
+use Rattle.controller.specs.declared.answer.Answer.{Answer}
+use Rattle.controller.specs.declared.effect.Effect.{Effect}
+use Rattle.controller.specs.declared.registers.Registers.{Registers}
+use Rattle.event.specs.declared.Kind.{Kind}
+use Rattle.event.specs.declared.Kind.the-variants.{InstructionWrite, DataWrite, StatusRead, DataRead}
+use Rattle.halves.specs.Halves.{answered}
+use Rattle.halves.specs.declared.Half.{Half}
 use Rattle.instructions.proofs.Rows.{change-by-byte}
-use Rattle.step.specs.Data.{shiftAfter, statusOf, readOf, writeData, readStatus, readData, act}
+use Rattle.instructions.specs.Instructions.{decode, obey}
 use Rattle.step.specs.Acted.{acted}
+use Rattle.step.specs.Data.{shiftAfter, statusOf, readOf, writeData, readStatus, readData, act}
 
 -- ---- an instruction: only the byte 01 changes a memory
 display-cleared : (b : Bool) (d : List ℕ) → cond b (replicate 80 0x20) d ≡ displayAfter (cond b Change.Clear Change.Nothing) d

@@ -1,28 +1,29 @@
 -- A transfer disagrees with the half that waits, or is a first half, or completes a byte: the one law of halves.
 use Prim.Native.Nat.{ℕ, _*_}
-use mathlib.Core.Path.{_≡_, _∙_, ap, refl, sym}
 use mathlib.Core.Bool.{Bool, true, false, cond, not, false≢true}
-use Rattle.counters.specs.declared.counter.Counter.{Counter}
-use Rattle.counters.specs.declared.counter.Counter.the-variants.{Display, Character}
-use Rattle.event.specs.declared.Kind.{Kind}
-use Rattle.event.specs.declared.Kind.the-variants.{InstructionWrite, DataWrite, StatusRead, DataRead}
-use Rattle.event.specs.Kind.{alike}
-use Rattle.halves.specs.declared.Half.{Half}
-use Rattle.halves.specs.declared.LineCount.{LineCount}
-use Rattle.halves.specs.declared.LineCount.the-variants.{Eight, Four}
-use Rattle.halves.specs.Halves.{upper, isFour, heldBy, isFirst, disagrees, completed, answered}
+use mathlib.Core.Path.{_≡_, _∙_, ap, refl, sym}
+use Rattle.controller.specs.Memory.{displayAfter, characterAfter}
+use Rattle.controller.specs.Part.{awaiting, with}
+use Rattle.controller.specs.Result.{Result, forgotten, leaving}
+use Rattle.controller.specs.Told.{Told, toldWith, addressed, carried}
 use Rattle.controller.specs.declared.Controller.{Controller}
 use Rattle.controller.specs.declared.answer.Answer.{Answer}
 use Rattle.controller.specs.declared.registers.Registers.{Registers}
-use Rattle.controller.specs.Memory.{displayAfter, characterAfter}
-use Rattle.controller.specs.Part.{awaiting, with}
-use Rattle.controller.specs.Result.{Result, forgotten}
-use Rattle.controller.specs.Told.{Told, toldWith, addressed, carried}
-use Rattle.instructions.specs.Instructions.{decode}
+use Rattle.counters.specs.declared.counter.Counter.{Counter}
+use Rattle.counters.specs.declared.counter.Counter.the-variants.{Display, Character}
+use Rattle.event.specs.Kind.{alike}
+use Rattle.event.specs.declared.Kind.{Kind}
+use Rattle.event.specs.declared.Kind.the-variants.{InstructionWrite, DataWrite, StatusRead, DataRead}
+use Rattle.halves.specs.Halves.{upper, isFour, heldBy, isFirst, disagrees, completed, answered}
+use Rattle.halves.specs.declared.Half.{Half}
+use Rattle.halves.specs.declared.LineCount.{LineCount}
+use Rattle.halves.specs.declared.LineCount.the-variants.{Eight, Four}
 use Rattle.instructions.proofs.Rows.{half-is-forgotten}
+use Rattle.instructions.specs.Instructions.{decode}
+use Rattle.step.specs.Acted.{readFrom, acted}
 use Rattle.step.specs.Data.{shiftAfter, statusOf, readOf, writeData, readStatus, readData, act}
 use Rattle.step.specs.Step.{firstHalf, secondHalf, onFour, onBus, refusedBusy, resultFor, stepped}
-use Rattle.step.specs.Acted.{readFrom, acted}
+use Rattle.step.specs.Theorems.{BusyLeavesAll}
 
 -- a choice, and the opposite one
 cond-not : (b : Bool) (x y : Result) → cond b x y ≡ cond (not b) y x
@@ -47,6 +48,11 @@ module _ (k : Kind) (r : Registers) (n v : ℕ) where
   unfolding onBus
   bus-joined Eight = eight-joined (r .half)
   bus-joined Four = four-joined (r .half)
+
+-- ---- refused with 1
+pub busy-leaves-all : BusyLeavesAll
+unfolding resultFor
+busy-leaves-all r k n b e = ap (λ (x : Bool). cond x (leaving 1 r) (onBus (r .bus) k r n (readOf k r b))) e
 
 -- ---- the half does not matter to a whole byte
 shift-unhalved : (k : Counter) (r : Registers) (h : Half) → shiftAfter k (awaiting r h (r .busy)) ≡ shiftAfter k r

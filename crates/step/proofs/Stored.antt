@@ -1,22 +1,22 @@
 -- The counter of registers in range addresses a cell or a byte that is there; what is read and stored there.
 use Prim.Native.Nat.{ℕ, _<_, _≤_}
-use mathlib.Core.Path.{_≡_, subst, subst⁻¹}
-use mathlib.Core.Bool.{true}
-use mathlib.Core.List.{List}
-use native.Mathlib.Omega.{arith}
 use lib.Dec.{leb→le}
 use lib.ListN.{getD, set}
+use mathlib.Core.Bool.{true}
+use mathlib.Core.List.{List}
+use mathlib.Core.Path.{_≡_, subst, subst⁻¹}
+use native.Mathlib.Omega.{arith}
 use Rattle.condition.proofs.Tests.{holds}
+use Rattle.controller.specs.Memory.{byteAt, storeAt, displayAfter, characterAfter}
+use Rattle.counters.proofs.Laws.{cell-exists}
+use Rattle.counters.specs.Address.{cellOf, hasCharacter}
+use Rattle.counters.specs.Counter.{hasCounter}
 use Rattle.counters.specs.declared.LineMode.{LineMode}
 use Rattle.counters.specs.declared.address.Cell.{Cell}
 use Rattle.counters.specs.declared.address.CharacterAddress.{CharacterAddress}
 use Rattle.counters.specs.declared.address.DisplayAddress.{DisplayAddress}
 use Rattle.counters.specs.declared.counter.Counter.{Counter}
 use Rattle.counters.specs.declared.counter.Counter.the-variants.{Display, Character}
-use Rattle.counters.specs.Address.{cellOf, hasCharacter}
-use Rattle.counters.specs.Counter.{hasCounter}
-use Rattle.counters.proofs.Laws.{cell-exists}
-use Rattle.controller.specs.Memory.{byteAt, storeAt, displayAfter, characterAfter}
 
 pub cell-below : (lines : LineMode) {k : Counter} {a : DisplayAddress} {c : Cell} → hasCounter lines k ≡ true → k ≡ Display a → c ≡ cellOf lines a → c .0 < 80
 unfolding hasCounter

@@ -1,9 +1,9 @@
 -- For the contracts of `act` and `upper_read` alone, no rule: a whole byte given to a controller in range.
 use Prim.Native.Nat.{ℕ}
+use Rattle.controller.specs.Told.{Told, addressed, carried}
+use Rattle.controller.specs.declared.Controller.{Controller}
 use Rattle.event.specs.declared.Kind.{Kind}
 use Rattle.halves.specs.Halves.{answered}
-use Rattle.controller.specs.declared.Controller.{Controller}
-use Rattle.controller.specs.Told.{Told, addressed, carried}
 use Rattle.step.specs.Data.{readOf, act}
 
 -- what a transfer of this kind reads

@@ -1,17 +1,17 @@
 -- "Instructions": data and status, and the whole byte.
 use Prim.Native.Nat.{ℕ, _+_}
-use mathlib.Core.Bool.{cond, not}
 use lib.Dec.{eqb}
-use Rattle.counters.specs.declared.counter.Counter.{Counter}
-use Rattle.counters.specs.declared.counter.Counter.the-variants.{Display, Character}
-use Rattle.counters.specs.declared.shift.Shift.{Shift}
-use Rattle.counters.specs.Counter.{numberOn}
-use Rattle.event.specs.declared.Kind.{Kind}
-use Rattle.event.specs.declared.Kind.the-variants.{InstructionWrite, DataWrite, StatusRead, DataRead}
-use Rattle.controller.specs.declared.registers.Registers.{Registers}
+use mathlib.Core.Bool.{cond, not}
 use Rattle.controller.specs.Memory.{Change, storeAt}
 use Rattle.controller.specs.Part.{placed, counterStepped, shiftMoved}
 use Rattle.controller.specs.Result.{Result, done}
+use Rattle.controller.specs.declared.registers.Registers.{Registers}
+use Rattle.counters.specs.Counter.{numberOn}
+use Rattle.counters.specs.declared.counter.Counter.{Counter}
+use Rattle.counters.specs.declared.counter.Counter.the-variants.{Display, Character}
+use Rattle.counters.specs.declared.shift.Shift.{Shift}
+use Rattle.event.specs.declared.Kind.{Kind}
+use Rattle.event.specs.declared.Kind.the-variants.{InstructionWrite, DataWrite, StatusRead, DataRead}
 use Rattle.instructions.specs.Instructions.{decode, obey}
 
 -- if the cell was in display memory and shift on write is set, the display then moves left for direction up, right for down

@@ -1,3 +1,4 @@
 pub mod Data
 pub mod Step
 pub mod Acted
+pub mod Theorems

@@ -1,20 +1,20 @@
 -- "Halves" and refusals 1 to 3: what a transfer of registers in range comes to.
 use Prim.Native.Nat.{ℕ, _+_, _*_}
-use mathlib.Core.Bool.{Bool, cond, _&&_, not}
 use lib.Dec.{eqb}
-use Rattle.event.specs.declared.Kind.{Kind}
-use Rattle.event.specs.Kind.{isStatus, alike}
-use Rattle.halves.specs.declared.Half.{Half}
-use Rattle.halves.specs.declared.LineCount.{LineCount}
-use Rattle.halves.specs.declared.LineCount.the-variants.{Eight, Four}
-use Rattle.halves.specs.Halves.{upper, heldBy, answered}
-use Rattle.controller.specs.declared.Controller.{Controller}
-use Rattle.controller.specs.declared.registers.Registers.{Registers}
+use mathlib.Core.Bool.{Bool, cond, _&&_, not}
 use Rattle.controller.specs.Answers.{saying}
 use Rattle.controller.specs.Memory.{Change}
 use Rattle.controller.specs.Part.{awaiting}
 use Rattle.controller.specs.Result.{Result, forgotten, leaving}
 use Rattle.controller.specs.Told.{Told, addressed, carried}
+use Rattle.controller.specs.declared.Controller.{Controller}
+use Rattle.controller.specs.declared.registers.Registers.{Registers}
+use Rattle.event.specs.Kind.{isStatus, alike}
+use Rattle.event.specs.declared.Kind.{Kind}
+use Rattle.halves.specs.Halves.{upper, heldBy, answered}
+use Rattle.halves.specs.declared.Half.{Half}
+use Rattle.halves.specs.declared.LineCount.{LineCount}
+use Rattle.halves.specs.declared.LineCount.the-variants.{Eight, Four}
 use Rattle.step.specs.Data.{readOf, act}
 
 -- the first half waits and costs no ticks; a read answers the upper half of its value, in the upper four bits with zeros below

@@ -1,8 +1,8 @@
 // Data and status: what a data write, a data read and a status read do to the registers, and what they read.
-ghost use mathlib.Core.Path.{_≡_};
 ghost use mathlib.Core.Bool.{true};
-ghost use Rattle.counters.specs.Counter.{hasCounter};
+ghost use mathlib.Core.Path.{_≡_};
 ghost use Rattle.controller.specs.Part.{placed, awaiting, counterStepped};
+ghost use Rattle.counters.specs.Counter.{hasCounter};
 ghost use Rattle.step.specs.Data.{shiftAfter, statusOf};
 use controller::Controller;
 use controller::registers::Registers;

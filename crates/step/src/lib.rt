@@ -1,7 +1,7 @@
 // One transfer with the memories lent: halves, then the whole byte, each change made where it is decided.
 ghost use Prim.Native.Nat.{_*_};
-ghost use mathlib.Core.Path.{_≡_};
 ghost use mathlib.Core.Bool.{true, false};
+ghost use mathlib.Core.Path.{_≡_};
 ghost use Rattle.controller.specs.Part.{with, inRange};
 ghost use Rattle.controller.specs.Told.{toldWith};
 ghost use Rattle.halves.specs.Halves.{upper};

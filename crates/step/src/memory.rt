@@ -1,10 +1,10 @@
 // The two memories, lent: the byte that the counter addresses, and the changes that a transfer can make.
-ghost use mathlib.Core.Path.{_≡_};
-ghost use mathlib.Core.Bool.{true, cond};
 ghost use lib.Dec.{eqb};
 ghost use lib.ListN.{replicate};
-ghost use Rattle.counters.specs.Counter.{hasCounter};
+ghost use mathlib.Core.Bool.{true, cond};
+ghost use mathlib.Core.Path.{_≡_};
 ghost use Rattle.controller.specs.Memory.{byteAt, storeAt, displayAfter, characterAfter};
+ghost use Rattle.counters.specs.Counter.{hasCounter};
 use controller::registers::Registers;
 use counters::counter::Counter;
 

@@ -1,13 +1,13 @@
 -- The theorems about a view: when it is refused, and where what it has written stands.
+use lib.ListN.{length, take, length-take}
 use mathlib.Core.Path.{_≡_, ap, sym, _∙_}
 use native.Mathlib.Omega.{arith}
-use lib.ListN.{length, take, length-take}
-use Rattle.condition.specs.First.{absent, distinct}
 use Rattle.condition.proofs.First.{first-given-exactly}
+use Rattle.condition.specs.First.{absent, distinct}
 use Rattle.lent.proofs.Left.{front-and-rest}
-use Rattle.view.specs.View.{viewOf}
 use Rattle.view.specs.Answers.{refusals, answerFor, valueFor}
 use Rattle.view.specs.Theorems.{ViewGivenExactly, AtTheFront}
+use Rattle.view.specs.View.{viewOf}
 
 pub view-given-exactly : ViewGivenExactly
 unfolding refusals answerFor absent distinct

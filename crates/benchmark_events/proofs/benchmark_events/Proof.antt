@@ -1,17 +1,17 @@
 -- `benchmark_events` meets its contract. The invariant: the sum so far, and over the events from a place on, is the whole one.
 use Prim.Native.Nat.{_-_}
-use mathlib.Core.Path.{_≡_, sym, ap, _∙_}
-use mathlib.Core.Bool.{true}
-use mathlib.Core.List.{[]}
-use native.Mathlib.Omega.{arith}
 use borrow.Author.Needs.{needs}
 use lib.ListN.{length}
-use Rattle.condition.proofs.Tests.{is-true}
-use Rattle.controller.specs.declared.Controller.{Controller}
-use Rattle.controller.specs.Part.{inRange, switchedOn}
-use Rattle.bus.specs.Transfer.{with}
-use Rattle.bus.specs.Events.{run}
+use mathlib.Core.Bool.{true}
+use mathlib.Core.List.{[]}
+use mathlib.Core.Path.{_≡_, sym, ap, _∙_}
+use native.Mathlib.Omega.{arith}
 use Rattle.bus.proofs.Range.{reached-in-range}
+use Rattle.bus.specs.Events.{run}
+use Rattle.bus.specs.Transfer.{with}
+use Rattle.condition.proofs.Tests.{is-true}
+use Rattle.controller.specs.Part.{inRange, switchedOn}
+use Rattle.controller.specs.declared.Controller.{Controller}
 use Rattle.record.proofs.InTurn.{found-fits, found-first, none-left, none-behind}
 use Rattle.benchmark_events.specs.Sum.{sumFrom}
 use Rattle.benchmark_events.proofs.Sums.{sum-turn, sum-end}

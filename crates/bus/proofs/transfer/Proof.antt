@@ -1,6 +1,7 @@
-use mathlib.Core.Path.{sym, _∙_}
+-- Refused with 16, or a transfer with the memories lent.
 use borrow.Author.Needs.{needs}
 use borrow.Author.Tests.{not-true, not-false}
+use mathlib.Core.Path.{sym, _∙_}
 use Rattle.bus.specs.Transfer.{transferOf}
 use Rattle.bus.proofs.transfer.Statement.{statement}
 use Rattle.bus.proofs.transfer.Tie as tie

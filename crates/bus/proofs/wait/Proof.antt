@@ -1,6 +1,7 @@
+-- Refused with 16, or the registers waited.
+use borrow.Author.Needs.{needs}
 use borrow.Author.Tests.{not-true, not-false}
 use Rattle.bus.specs.Transfer.{waitOf}
-use borrow.Author.Needs.{needs}
 use Rattle.bus.proofs.wait.Statement.{statement}
 use Rattle.bus.proofs.wait.Tie as tie
 

@@ -1,16 +1,16 @@
 -- Each return's tests decide the list of refusals; the last draws over the front of the buffer.
-use mathlib.Core.Path.{_≡_, refl, sym, _∙_}
-use mathlib.Core.Bool.{true}
-use lib.ListN.{length}
-use lib.Seq.{length-take-le}
-use denote.Ref.{now}
 use borrow.Author.Needs.{needs}
 use borrow.Author.Tests.{not-true, not-false, lt-ltb, le-ltb}
+use denote.Ref.{now}
+use lib.ListN.{length}
+use lib.Seq.{length-take-le}
+use mathlib.Core.Bool.{true}
+use mathlib.Core.Path.{_≡_, refl, sym, _∙_}
 use Rattle.condition.specs.First.{firstOf}
-use Rattle.size.specs.Size.{hasDigits}
 use Rattle.size.proofs.Sizes.{digits-counted}
-use Rattle.drawing.specs.Drawing.{drawingOf}
+use Rattle.size.specs.Size.{hasDigits}
 use Rattle.drawing.specs.Answers.{refusals, answerFor}
+use Rattle.drawing.specs.Drawing.{drawingOf}
 use Rattle.drawing.proofs.Lengths.{length-drawing}
 use Rattle.drawing.proofs.Promise.{refused, drawn}
 use Rattle.drawing.proofs.draw.Statement.{statement}

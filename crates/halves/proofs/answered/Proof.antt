@@ -1,6 +1,6 @@
 -- By the line count.
-use Rattle.halves.proofs.Waiting.{answered-by-lines}
 use borrow.Author.Needs.{needs}
+use Rattle.halves.proofs.Waiting.{answered-by-lines}
 use Rattle.halves.proofs.answered.Statement.{statement}
 use Rattle.halves.proofs.answered.Tie as tie
 

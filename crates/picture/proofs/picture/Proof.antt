@@ -1,11 +1,11 @@
 -- Each return's tests decide the list of refusals; the last draws over the front of the buffer.
-use mathlib.Core.Path.{_≡_, refl, sym, _∙_}
-use mathlib.Core.Bool.{true}
-use native.Mathlib.Omega.{arith}
-use lib.ListN.{length-take}
-use lib.Seq.{length-take-le}
 use borrow.Author.Needs.{needs}
 use borrow.Author.Tests.{not-true, not-false, lt-ltb, le-ltb, eq-eqb, ne-eqb}
+use lib.ListN.{length-take}
+use lib.Seq.{length-take-le}
+use mathlib.Core.Bool.{true}
+use mathlib.Core.Path.{_≡_, refl, sym, _∙_}
+use native.Mathlib.Omega.{arith}
 use Rattle.condition.specs.First.{firstOf}
 use Rattle.controller.specs.Part.{inRange}
 use Rattle.size.specs.Size.{hasDigits}

@@ -1,17 +1,18 @@
+-- Refused with 16, or a loop that has given the first i writes.
 use Prim.Native.Nat.{ℕ, zero, suc, _-_, _%_, _≤_, _<_}
-use mathlib.Core.Path.{_≡_, refl, ap, _∙_}
-use mathlib.Core.Bool.{Bool}
-use mathlib.Core.List.{List}
-use native.Mathlib.Numerals.{add-one}
-use native.Mathlib.Omega.{arith}
 use borrow.Author.Needs.{needs}
 use borrow.Author.Tests.{not-true, not-false}
-use lib.ListN.{getD}
 use lib.Dec.{leb, leb→le}
+use lib.ListN.{getD}
+use mathlib.Core.Bool.{Bool}
+use mathlib.Core.List.{List}
+use mathlib.Core.Path.{_≡_, refl, ap, _∙_}
+use native.Mathlib.Numerals.{add-one}
+use native.Mathlib.Omega.{arith}
+use Rattle.bus.specs.Transfer.{told}
 use Rattle.condition.proofs.Tests.{each}
 use Rattle.controller.specs.declared.Controller.{Controller}
 use Rattle.controller.specs.declared.answer.Answer.{Answer}
-use Rattle.bus.specs.Transfer.{told}
 use Rattle.restart.specs.Writes.{halves, patiently, toldOf, after as afterAll, patient, lowerLines, restartOf}
 use Rattle.restart.proofs.restart.Statement.{statement}
 use Rattle.restart.proofs.restart.Tie as tie
@@ -68,20 +69,22 @@ loop-less c = omega arith
 loop-again : tie.Need-loop-again Inv-loop μ-loop
 unfolding afterFirst
 loop-again c =
-    let i = c .before .before .loop .i in
-    let lower = c .before .before .before .before .before .before .args .t2 in (
+    let loop = c .before .before in
+    let i = loop .loop .i in
+    let lower = loop .before .before .before .before .args .t2 in (
       omega arith,
       rw (add-one i)
           (c .write .ensures
-          ∙ ap (λ (x : Controller). toldOf (getD halves i 0) (patiently (getD lower i 0 % 16)) x .controller) (c .before .before .loop .inv .1)),
+          ∙ ap (λ (x : Controller). toldOf (getD halves i 0) (patiently (getD lower i 0 % 16)) x .controller) (loop .loop .inv .1)),
     )
 
 returns-2 : tie.Need-returns-2 Inv-loop μ-loop
 unfolding restartOf
 returns-2 c =
-    let start = c .before .before .before .before .before in
+    let ranged = c .before .before .before in
+    let start = ranged .before .before in
     let e : c .before .loop .i ≡ 12 = omega arith in
-    rw (← c .before .before .before .in-range .ensures, not-false (c .before .before .before .in-range .result) (c .before .before .if1 .left))
+    rw (← ranged .in-range .ensures, not-false (ranged .in-range .result) (c .before .before .if1 .left))
     (ap (λ (x : Controller). told (record { controller = x; answer = Answer.Done 0 }))
     (c .before .loop .inv .1
     ∙ ap (λ (n : ℕ). afterFirst n (start .args .controller) (start .args .t2)) e

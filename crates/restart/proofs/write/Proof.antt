@@ -1,11 +1,12 @@
+-- A wait, then the transfer of the two halves of its number.
 use Prim.Native.Nat.{_+_, _*_, _%_}
+use borrow.Author.Needs.{needs}
 use mathlib.Core.Path.{ap, _∙_}
-use Rattle.event.specs.declared.Kind.{Kind}
+use Rattle.bus.specs.Events.{waits}
 use Rattle.bus.specs.Transfer.{transferOf}
 use Rattle.controller.specs.Told.{Told}
-use Rattle.bus.specs.Events.{waits}
+use Rattle.event.specs.declared.Kind.{Kind}
 use Rattle.restart.specs.Writes.{toldOf}
-use borrow.Author.Needs.{needs}
 use Rattle.restart.proofs.write.Statement.{statement}
 use Rattle.restart.proofs.write.Tie as tie
 

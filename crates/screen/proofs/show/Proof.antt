@@ -1,9 +1,9 @@
 -- What is printed is at the front of the text, by the view's theorem.
 use Prim.Native.Nat.{_≤_}
-use mathlib.Core.Path.{sym}
+use borrow.Author.Needs.{needs}
 use lib.ListN.{length}
 use lib.Seq.{length-take-le}
-use borrow.Author.Needs.{needs}
+use mathlib.Core.Path.{sym}
 use Rattle.view.proofs.Theorems.{at-the-front}
 use Rattle.screen.proofs.show.Statement.{statement}
 use Rattle.screen.proofs.show.Tie as tie

@@ -1,8 +1,8 @@
 -- Two lines of 11 rows of 255 digits leave the product within a machine number.
 use Prim.Native.Nat.{_≤_}
+use borrow.Author.Needs.{needs}
 use native.Mathlib.Nat.{mul-le-mul}
 use native.Mathlib.Omega.{arith}
-use borrow.Author.Needs.{needs}
 use Rattle.size.proofs.byte_count.Statement.{statement}
 use Rattle.size.proofs.byte_count.Tie as tie
 

@@ -1,8 +1,8 @@
 -- Each arm by the law of its kind.
-use Rattle.controller.specs.Part.{with}
-use Rattle.controller.proofs.Ranged.{counter-exists}
-use Rattle.step.proofs.Acting.{instruction-acts, write-acts, status-acts, read-acts}
 use borrow.Author.Needs.{needs}
+use Rattle.controller.proofs.Ranged.{counter-exists}
+use Rattle.controller.specs.Part.{with}
+use Rattle.step.proofs.Acting.{instruction-acts, write-acts, status-acts, read-acts}
 use Rattle.step.proofs.act.Statement.{statement}
 use Rattle.step.proofs.act.Tie as tie
 
@@ -58,8 +58,9 @@ returns c =
 returns-2 : tie.Need-returns-2
 returns-2 c =
     let stored = c .before in
-    let start = stored .before .before .before .before .before in
-    write-acts (with (start .args .display .now) (start .args .character .now) (start .args .registers)) (start .args .byte) (start .pre .1) (stored .before .before .before .enum-told2 .given .1) (stored .store .ensures) (c .written .ensures)
+    let told = stored .before .before .before in
+    let start = told .before .before in
+    write-acts (with (start .args .display .now) (start .args .character .now) (start .args .registers)) (start .args .byte) (start .pre .1) (told .enum-told2 .given .1) (stored .store .ensures) (c .written .ensures)
 
 returns-3 : tie.Need-returns-3
 returns-3 c =

@@ -1,6 +1,6 @@
 -- The test of the rule.
-use Rattle.step.specs.Step.{refusedBusy}
 use borrow.Author.Needs.{needs}
+use Rattle.step.specs.Step.{refusedBusy}
 use Rattle.step.proofs.refused_busy.Statement.{statement}
 use Rattle.step.proofs.refused_busy.Tie as tie
 

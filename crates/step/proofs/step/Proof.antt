@@ -1,10 +1,10 @@
 -- A first half, halves that disagree, or a byte completed: each way by its law.
-use mathlib.Core.Path.{_∙_, refl, sym}
-use borrow.Author.Tests.{not-true, not-false}
-use Rattle.controller.specs.Part.{with}
-use Rattle.controller.proofs.Ranged.{upper-small, unhalved-in-range}
-use Rattle.step.proofs.Joined.{first-steps, disagree-steps, act-steps}
 use borrow.Author.Needs.{needs}
+use borrow.Author.Tests.{not-true, not-false}
+use mathlib.Core.Path.{_∙_, refl, sym}
+use Rattle.controller.proofs.Ranged.{upper-small, unhalved-in-range}
+use Rattle.controller.specs.Part.{with}
+use Rattle.step.proofs.Joined.{first-steps, disagree-steps, act-steps}
 use Rattle.step.proofs.step.Statement.{statement}
 use Rattle.step.proofs.step.Tie as tie
 
@@ -22,19 +22,23 @@ disagrees-requires c κs = search needs
 
 completed-requires : tie.Need-completed-requires
 completed-requires c κs =
-    let tested = c .before .before .before in
-    upper-small _ (tested .before .before .before .before .before .pre .0)
+    let first = c .before .before .before .before in
+    upper-small _ (first .before .before .before .before .pre .0)
 
 act-requires : tie.Need-act-requires
 act-requires c κs =
-    let tested = c .before .before .before .before .before .before in
-    (unhalved-in-range _ (tested .before .before .before .before .before .pre .0), refl)
+    let agreed = c .before .before .before in
+    let first = agreed .before .before .before in
+    let copied = first .before in
+    (unhalved-in-range _ (copied .before .before .before .before .pre .0), refl)
 
 returns : tie.Need-returns
 returns c =
-    let halved = c .before .before .before .before .before .before .before in
+    let set = c .before .before .before .before in
+    let halved = set .before .before .before in
     let tested = halved .before .before in
-    let start = tested .before .before .before .before .before in
+    let copied = tested .before in
+    let start = copied .before .before .before .before in
     first-steps (with (start .args .display .now) (start .args .character .now) (start .args .registers)) (start .args .kind) (start .args .value) (start .pre .1) (sym (tested .is-first .ensures) ∙ halved .before .if1 .taken) (halved .of .ensures) (c .upper-read .ensures)
 
 returns-2 : tie.Need-returns-2
@@ -42,7 +46,8 @@ returns-2 c =
     let completed = c .before .before .before .before in
     let agreed = completed .before in
     let tested = agreed .before .before .before in
-    let start = tested .before .before .before .before .before in
+    let copied = tested .before in
+    let start = copied .before .before .before .before in
     act-steps (with (start .args .display .now) (start .args .character .now) (start .args .registers)) (start .args .kind) (start .args .value) (start .pre .1)
     (sym (tested .is-first .ensures) ∙ agreed .before .before .if1 .left)
     (sym (agreed .before .disagrees .ensures) ∙ not-true (agreed .before .disagrees .result) (agreed .if2 .taken))
@@ -52,7 +57,8 @@ returns-2 c =
 returns-3 : tie.Need-returns-3
 returns-3 c =
     let tested = c .before .before .before in
-    let start = tested .before .before .before .before .before in
+    let copied = tested .before in
+    let start = copied .before .before .before .before in
     disagree-steps (with (start .args .display .now) (start .args .character .now) (start .args .registers)) (start .args .kind) (start .args .value) (start .pre .1)
     (sym (c .before .disagrees .ensures) ∙ not-false (c .before .disagrees .result) (c .if2 .left))
 

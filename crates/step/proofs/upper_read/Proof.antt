@@ -1,10 +1,10 @@
 -- A case for each kind.
 use Prim.Native.Nat.{_/_, _%_}
+use borrow.Author.Needs.{needs}
 use mathlib.Core.Path.{_≡_}
 use native.Mathlib.Omega.{arith}
 use Rattle.controller.proofs.Ranged.{counter-exists}
 use Rattle.step.specs.Data.{readOf}
-use borrow.Author.Needs.{needs}
 use Rattle.step.proofs.upper_read.Statement.{statement}
 use Rattle.step.proofs.upper_read.Tie as tie
 

@@ -1,19 +1,19 @@
 -- Refused with 1, or a step.
 use Prim.Native.Nat.{ℕ}
-use mathlib.Core.Path.{_≡_, _∙_, sym}
-use mathlib.Core.Bool.{true}
+use borrow.Author.Needs.{needs}
 use borrow.Author.Tests.{not-true, not-false}
+use mathlib.Core.Bool.{true}
+use mathlib.Core.Path.{_≡_, _∙_, sym}
 use Rattle.condition.proofs.Tests.{holds}
-use Rattle.event.specs.declared.Kind.{Kind}
-use Rattle.controller.specs.declared.Controller.{Controller}
-use Rattle.controller.specs.declared.answer.Answer.{Answer}
 use Rattle.controller.specs.Memory.{displayAfter, characterAfter}
 use Rattle.controller.specs.Part.{with, inRange}
 use Rattle.controller.specs.Told.{toldWith}
+use Rattle.controller.specs.declared.Controller.{Controller}
+use Rattle.controller.specs.declared.answer.Answer.{Answer}
+use Rattle.event.specs.declared.Kind.{Kind}
 use Rattle.step.specs.Step.{refusedBusy, resultFor}
 use Rattle.bus.specs.Transfer.{transferOf}
 use Rattle.bus.proofs.Free.{transfer-steps}
-use borrow.Author.Needs.{needs}
 use Rattle.bus.proofs.turn.transferred.Statement.{statement}
 use Rattle.bus.proofs.turn.transferred.Tie as tie
 
@@ -33,7 +33,8 @@ step-requires c κs =
 
 returns : tie.Need-returns
 returns c =
-    let start = c .before .before .before .before .before .before in
+    let lent = c .before .before .before in
+    let start = lent .before .before .before in
     c .before .step .ensures ∙ sym (transfer-steps (with (start .args .display .now) (start .args .character .now) (start .args .registers)) (start .args .kind) (start .args .value) (holds _ (start .pre)))
 
 returns-2 : tie.Need-returns-2

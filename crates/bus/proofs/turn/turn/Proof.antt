@@ -1,22 +1,22 @@
 -- A transfer or a wait, as the event says; the range is kept.
 use Prim.Native.Nat.{ℕ}
-use mathlib.Core.Path.{_≡_, _∙_, ap, subst⁻¹, sym}
+use borrow.Author.Needs.{needs}
+use lib.Dec.{T}
 use mathlib.Core.Bool.{true}
 use mathlib.Core.List.{List}
-use lib.Dec.{T}
+use mathlib.Core.Path.{_≡_, _∙_, ap, subst⁻¹, sym}
 use Rattle.condition.proofs.Tests.{holds, is-true}
-use Rattle.event.specs.declared.Event.{Event}
+use Rattle.controller.specs.Part.{with, waited, inRange}
+use Rattle.controller.specs.Told.{Told, toldWith}
 use Rattle.controller.specs.declared.Controller.{Controller}
 use Rattle.controller.specs.declared.answer.Answer.{Answer}
 use Rattle.controller.specs.declared.effect.Effect.{Effect}
 use Rattle.controller.specs.declared.registers.Registers.{Registers}
-use Rattle.controller.specs.Part.{with, waited, inRange}
-use Rattle.controller.specs.Told.{Told, toldWith}
-use Rattle.bus.specs.Transfer.{waitOf}
+use Rattle.event.specs.declared.Event.{Event}
 use Rattle.bus.specs.Events.{toldBy}
-use Rattle.bus.proofs.Range.{range-kept}
+use Rattle.bus.specs.Transfer.{waitOf}
 use Rattle.bus.proofs.Busy.{waited-told}
-use borrow.Author.Needs.{needs}
+use Rattle.bus.proofs.Range.{range-kept}
 use Rattle.bus.proofs.turn.turn.Statement.{statement}
 use Rattle.bus.proofs.turn.turn.Tie as tie
 

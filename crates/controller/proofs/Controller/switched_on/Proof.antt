@@ -1,3 +1,4 @@
+-- The registers are written out as the rule has them.
 use mathlib.Core.Path.{refl}
 use Rattle.controller.specs.Part.{switchedOn, freshWith, freshRegisters}
 use Rattle.controller.proofs.Controller.switched_on.Statement.{statement}

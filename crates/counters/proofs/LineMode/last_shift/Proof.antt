@@ -1,6 +1,6 @@
 -- A case for each line mode.
-use Rattle.counters.specs.Shift.{lastShift}
 use borrow.Author.Needs.{needs}
+use Rattle.counters.specs.Shift.{lastShift}
 use Rattle.counters.proofs.LineMode.last_shift.Statement.{statement}
 use Rattle.counters.proofs.LineMode.last_shift.Tie as tie
 

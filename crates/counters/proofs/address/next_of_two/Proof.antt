@@ -1,7 +1,7 @@
 -- 27 goes to 40; every other number takes the wrapping step.
+use borrow.Author.Needs.{needs}
 use borrow.Author.Tests.{eq-eqb, ne-eqb}
 use Rattle.counters.specs.Address.{stepDisplay}
-use borrow.Author.Needs.{needs}
 use Rattle.counters.proofs.address.next_of_two.Statement.{statement}
 use Rattle.counters.proofs.address.next_of_two.Tie as tie
 

@@ -1,7 +1,7 @@
 -- 40 goes to 27; every other number takes the wrapping step.
+use borrow.Author.Needs.{needs}
 use borrow.Author.Tests.{eq-eqb, ne-eqb}
 use Rattle.counters.specs.Address.{stepDisplay}
-use borrow.Author.Needs.{needs}
 use Rattle.counters.proofs.address.previous_of_two.Statement.{statement}
 use Rattle.counters.proofs.address.previous_of_two.Tie as tie
 

@@ -1,7 +1,7 @@
 -- The test of the code is the rule's.
+use borrow.Author.Needs.{needs}
 use borrow.Author.Tests.{le-leb, lt-leb}
 use Rattle.counters.specs.Wrap.{next}
-use borrow.Author.Needs.{needs}
 use Rattle.counters.proofs.wrap.next.Statement.{statement}
 use Rattle.counters.proofs.wrap.next.Tie as tie
 

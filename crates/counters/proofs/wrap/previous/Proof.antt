@@ -1,7 +1,7 @@
 -- The test of the code is the rule's.
+use borrow.Author.Needs.{needs}
 use borrow.Author.Tests.{eq-eqb, ne-eqb}
 use Rattle.counters.specs.Wrap.{previous}
-use borrow.Author.Needs.{needs}
 use Rattle.counters.proofs.wrap.previous.Statement.{statement}
 use Rattle.counters.proofs.wrap.previous.Tie as tie
 

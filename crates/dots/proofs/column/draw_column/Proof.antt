@@ -1,8 +1,8 @@
 -- Both ways call draw_rows; with 11 rows the number is put in for the variable.
 use Prim.Native.Nat.{ℕ, _*_}
+use borrow.Author.Needs.{needs}
 use mathlib.Core.Path.{ap, _∙_}
 use native.Mathlib.Omega.{arith}
-use borrow.Author.Needs.{needs}
 use Rattle.dots.proofs.column.draw_column.Statement.{statement}
 use Rattle.dots.proofs.column.draw_column.Tie as tie
 

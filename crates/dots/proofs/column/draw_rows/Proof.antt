@@ -1,10 +1,10 @@
 -- The loop fills one column, a row a turn.
 use Prim.Native.Nat.{ℕ, _-_, _%_, _<_}
+use borrow.Author.Needs.{needs}
+use lib.ListN.{length}
 use mathlib.Core.Path.{ap}
 use native.Mathlib.Nat.{mul-le-mul}
 use native.Mathlib.Omega.{arith}
-use lib.ListN.{length}
-use borrow.Author.Needs.{needs}
 use Rattle.dots.specs.Dots.{patternOf}
 use Rattle.dots.proofs.Columns.{Filling, column-start, column-room, column-next, column-whole}
 use Rattle.dots.proofs.column.draw_rows.Statement.{statement}

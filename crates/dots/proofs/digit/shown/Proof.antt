@@ -1,7 +1,7 @@
 -- Each line mode bounds shift, line and digit, so that the sums fit and the cell exists.
 use Prim.Native.Nat.{_<_}
-use native.Mathlib.Omega.{arith}
 use borrow.Author.Needs.{needs}
+use native.Mathlib.Omega.{arith}
 use Rattle.size.specs.Size.{linesOf, mostDigits}
 use Rattle.dots.specs.Digit.{shownOn}
 use Rattle.dots.proofs.digit.shown.Statement.{statement}

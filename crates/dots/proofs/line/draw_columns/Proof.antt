@@ -1,10 +1,10 @@
 -- The loop adds a column a turn: the one of the cell that the digit shows.
 use Prim.Native.Nat.{_-_, _%_}
+use borrow.Author.Needs.{needs}
+use lib.ListN.{getD}
 use mathlib.Core.Path.{_∙_}
 use native.Mathlib.Nat.{lt-of-lt-of-le}
 use native.Mathlib.Omega.{arith}
-use lib.ListN.{getD}
-use borrow.Author.Needs.{needs}
 use Rattle.size.proofs.Sizes.{most-small}
 use Rattle.dots.specs.Digit.{shownOn}
 use Rattle.dots.specs.Dots.{patternOf}

@@ -1,10 +1,10 @@
 -- All patterns, and the marked column over them, are the rows of the definition.
 use Prim.Native.Nat.{ℕ, _*_, _≤_}
+use borrow.Author.Needs.{needs}
+use denote.Ref.{now}
+use lib.ListN.{length}
 use mathlib.Core.Path.{_≡_, ap, sym, _∙_}
 use native.Mathlib.Omega.{arith}
-use lib.ListN.{length}
-use denote.Ref.{now}
-use borrow.Author.Needs.{needs}
 use Rattle.size.proofs.Sizes.{most-small}
 use Rattle.dots.proofs.Dots.{line-marked, line-unmarked}
 use Rattle.dots.proofs.line.draw_line.Statement.{statement}

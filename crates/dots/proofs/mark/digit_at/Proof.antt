@@ -1,13 +1,13 @@
 -- An address that exists marks the digit that shows its cell, if it is of this line; any other marks none.
 use Prim.Native.Nat.{_<_}
-use mathlib.Core.Path.{sym, _∙_}
-use native.Mathlib.Omega.{arith}
-use lib.Dec.{T}
 use borrow.Author.Needs.{needs}
 use borrow.Author.Tests.{not-true, not-false}
+use lib.Dec.{T}
+use mathlib.Core.Path.{sym, _∙_}
+use native.Mathlib.Omega.{arith}
 use Rattle.condition.proofs.Tests.{holds}
-use Rattle.counters.specs.Address.{display, hasDisplay}
 use Rattle.counters.proofs.Laws.{cell-exists}
+use Rattle.counters.specs.Address.{display, hasDisplay}
 use Rattle.size.proofs.Sizes.{most-small, most-two}
 use Rattle.dots.proofs.Marks.{digit-one, digit-two, marked-cell, marked-none, marked-elsewhere}
 use Rattle.dots.proofs.mark.digit_at.Statement.{statement}

@@ -1,10 +1,10 @@
 -- The loop fills the marked digit's column, a row a turn, from the bytes that still wait there.
 use Prim.Native.Nat.{_+_, _*_, _-_, _<_}
+use borrow.Author.Needs.{needs}
+use lib.ListN.{length, getD}
 use mathlib.Core.Bool.{cond}
 use native.Mathlib.Nat.{le-refl, mul-le-mul}
 use native.Mathlib.Omega.{arith}
-use lib.ListN.{length, getD}
-use borrow.Author.Needs.{needs}
 use Rattle.dots.specs.Dots.{isSet}
 use Rattle.dots.proofs.Columns.{Filling, column-start, column-room, column-next, column-whole}
 use Rattle.dots.proofs.mark.draw_mark.Statement.{statement}

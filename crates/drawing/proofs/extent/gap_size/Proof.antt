@@ -1,6 +1,6 @@
 -- Each arm of the match is a clause of the definition.
-use mathlib.Core.Path.{_∙_}
 use borrow.Author.Needs.{needs}
+use mathlib.Core.Path.{_∙_}
 use Rattle.drawing.specs.Contracts.{gapSize}
 use Rattle.drawing.proofs.extent.gap_size.Statement.{statement}
 use Rattle.drawing.proofs.extent.gap_size.Tie as tie

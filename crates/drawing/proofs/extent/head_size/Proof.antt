@@ -1,6 +1,6 @@
 -- The parts of an image's head are counted.
-use native.Mathlib.Omega.{arith}
 use borrow.Author.Needs.{needs}
+use native.Mathlib.Omega.{arith}
 use Rattle.drawing.specs.Drawing.{headOf}
 use Rattle.drawing.proofs.Lengths.{length-head}
 use Rattle.drawing.proofs.extent.head_size.Statement.{statement}

@@ -1,6 +1,6 @@
 -- Each line mode's sum, with the rows put in.
-use native.Mathlib.Omega.{arith}
 use borrow.Author.Needs.{needs}
+use native.Mathlib.Omega.{arith}
 use Rattle.size.specs.Size.{linesOf}
 use Rattle.drawing.proofs.extent.height.Statement.{statement}
 use Rattle.drawing.proofs.extent.height.Tie as tie

@@ -1,7 +1,7 @@
 -- 11 rows of 480 bytes leave the product within a machine number.
-use native.Mathlib.Omega.{arith}
-use native.Mathlib.Nat.{mul-le-mul}
 use borrow.Author.Needs.{needs}
+use native.Mathlib.Nat.{mul-le-mul}
+use native.Mathlib.Omega.{arith}
 use Rattle.drawing.proofs.extent.line_size.Statement.{statement}
 use Rattle.drawing.proofs.extent.line_size.Tie as tie
 

@@ -1,6 +1,6 @@
 -- Each arm of the match is a clause of the definition.
-use native.Mathlib.Omega.{arith}
 use borrow.Author.Needs.{needs}
+use native.Mathlib.Omega.{arith}
 use Rattle.drawing.specs.Contracts.{rowSize}
 use Rattle.drawing.proofs.extent.row_size.Statement.{statement}
 use Rattle.drawing.proofs.extent.row_size.Tie as tie

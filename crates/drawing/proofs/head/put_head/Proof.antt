@@ -1,15 +1,15 @@
 -- Text has no head; an image's three parts are put one behind the other.
 use Prim.Native.Nat.{_+_, _≤_}
+use borrow.Author.Needs.{needs}
+use denote.Ref.{now}
+use lib.ListN.{length, length-append}
 use mathlib.Core.Path.{refl}
 use native.Mathlib.Omega.{arith}
-use lib.ListN.{length, length-append}
-use denote.Ref.{now}
-use borrow.Author.Needs.{needs}
-use Rattle.lent.specs.Put.{putAt}
 use Rattle.lent.proofs.Placed.{puts-then}
+use Rattle.lent.specs.Put.{putAt}
 use Rattle.text.specs.Text.{decimalOf}
-use Rattle.drawing.specs.declared.form.Form.the-variants.{Image}
 use Rattle.drawing.specs.Drawing.{headOf}
+use Rattle.drawing.specs.declared.form.Form.the-variants.{Image}
 use Rattle.drawing.proofs.Lengths.{length-head}
 use Rattle.drawing.proofs.head.put_head.Statement.{statement}
 use Rattle.drawing.proofs.head.put_head.Tie as tie

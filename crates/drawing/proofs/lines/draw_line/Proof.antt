@@ -1,12 +1,12 @@
 -- The loop puts a row a turn behind those already there.
 use Prim.Native.Nat.{_+_, _*_, _-_, _≤_}
+use borrow.Author.Needs.{needs}
+use denote.Ref.{now}
+use lib.ListN.{length, getD, length-drop}
 use mathlib.Core.Path.{_≡_, refl, sym, _∙_}
 use native.Mathlib.Nat.{suc-mul, zero-mul, mul-le-mul-right, le-antisymm}
 use native.Mathlib.Numerals.{add-one}
 use native.Mathlib.Omega.{arith}
-use lib.ListN.{length, getD, length-drop}
-use denote.Ref.{now}
-use borrow.Author.Needs.{needs}
 use Rattle.lent.proofs.Lists.{length-lent, Taken, taken-start, taken-next, taken-whole}
 use Rattle.drawing.specs.Drawing.{rowIn, lineIn}
 use Rattle.drawing.proofs.Lengths.{length-row, rest-lent, row-from}

@@ -1,12 +1,12 @@
 -- Each line mode's part of the definition is what its callee draws.
 use Prim.Native.Nat.{_*_, _≤_}
-use native.Mathlib.Nat.{zero-mul, zero-add, one-mul, mul-assoc}
-use lib.ListN.{length}
-use denote.Ref.{now}
 use borrow.Author.Needs.{needs}
+use denote.Ref.{now}
+use lib.ListN.{length}
+use native.Mathlib.Nat.{zero-mul, zero-add, one-mul, mul-assoc}
 use Rattle.size.specs.Size.{linesOf}
-use Rattle.drawing.specs.Drawing.{between}
 use Rattle.drawing.specs.Contracts.{linesSize}
+use Rattle.drawing.specs.Drawing.{between}
 use Rattle.drawing.proofs.lines.draw_lines.Statement.{statement}
 use Rattle.drawing.proofs.lines.draw_lines.Tie as tie
 

@@ -1,12 +1,12 @@
 -- Three parts lent one behind the other fill the buffer.
 use Prim.Native.Nat.{ℕ, _+_, _*_}
+use borrow.Author.Needs.{needs}
+use denote.Ref.{now}
+use lib.ListN.{length, length-drop}
+use lib.Seq.{length-take-le}
 use mathlib.Core.Path.{_≡_, ap, sym, _∙_}
 use native.Mathlib.Nat.{zero-mul, one-mul, mul-le-mul}
 use native.Mathlib.Omega.{arith}
-use lib.ListN.{length, length-drop}
-use lib.Seq.{length-take-le}
-use denote.Ref.{now}
-use borrow.Author.Needs.{needs}
 use Rattle.lent.proofs.Returned.{three-put}
 use Rattle.drawing.specs.Drawing.{between}
 use Rattle.drawing.proofs.Lengths.{length-gap, length-line, rest-lent}

@@ -1,14 +1,14 @@
 -- The lines are drawn behind the head.
 use Prim.Native.Nat.{_+_, _*_}
+use borrow.Author.Needs.{needs}
+use denote.Ref.{now}
+use lib.ListN.{length, length-drop}
 use mathlib.Core.Path.{_≡_}
 use native.Mathlib.Omega.{arith}
-use lib.ListN.{length, length-drop}
-use denote.Ref.{now}
-use borrow.Author.Needs.{needs}
 use Rattle.lent.proofs.Returned.{behind-put}
 use Rattle.size.specs.Size.{rowsOf}
-use Rattle.drawing.specs.Drawing.{headOf, drawingOf}
 use Rattle.drawing.specs.Contracts.{rowSize, gapSize, linesSize, sizeOf}
+use Rattle.drawing.specs.Drawing.{headOf, drawingOf}
 use Rattle.drawing.proofs.Lengths.{rest-lent}
 use Rattle.drawing.proofs.lines.draw_whole.Statement.{statement}
 use Rattle.drawing.proofs.lines.draw_whole.Tie as tie

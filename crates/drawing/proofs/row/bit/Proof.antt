@@ -1,7 +1,7 @@
 -- The tests of the width and of the dot decide the definition.
-use mathlib.Core.Path.{sym}
 use borrow.Author.Needs.{needs}
 use borrow.Author.Tests.{lt-ltb, le-ltb}
+use mathlib.Core.Path.{sym}
 use Rattle.drawing.specs.Row.{bitAt}
 use Rattle.drawing.proofs.row.bit.Statement.{statement}
 use Rattle.drawing.proofs.row.bit.Tie as tie

@@ -1,7 +1,7 @@
 -- The loop fills the buffer, a byte of eight bits a turn.
 use Prim.Native.Nat.{_+_, _*_, _-_}
-use lib.ListN.{length, getD}
 use borrow.Author.Needs.{needs}
+use lib.ListN.{length, getD}
 use Rattle.lent.proofs.Lists.{Filled, filled-start, filled-next, filled-whole}
 use Rattle.drawing.specs.Row.{bitAt, packed, imageRow}
 use Rattle.drawing.proofs.row.draw_bits.Statement.{statement}

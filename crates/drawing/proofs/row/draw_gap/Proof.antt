@@ -1,11 +1,11 @@
 -- Text takes one line end; an image the row of eighty bytes without a dot.
+use borrow.Author.Needs.{needs}
+use denote.Ref.{now}
+use lib.ListN.{length}
 use mathlib.Core.Path.{_≡_, _∙_}
 use native.Mathlib.Omega.{arith}
-use lib.ListN.{length}
-use denote.Ref.{now}
-use borrow.Author.Needs.{needs}
-use Rattle.drawing.specs.Drawing.{gapIn}
 use Rattle.drawing.specs.Contracts.{gapSize, rowSize}
+use Rattle.drawing.specs.Drawing.{gapIn}
 use Rattle.drawing.proofs.Rows.{set-only, no-dots}
 use Rattle.drawing.proofs.row.draw_gap.Statement.{statement}
 use Rattle.drawing.proofs.row.draw_gap.Tie as tie

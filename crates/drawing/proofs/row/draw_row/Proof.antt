@@ -1,11 +1,11 @@
 -- Each form's row is what its callee draws.
 use Prim.Native.Nat.{_*_}
-use mathlib.Core.Path.{_≡_}
-use lib.ListN.{length}
-use denote.Ref.{now}
 use borrow.Author.Needs.{needs}
-use Rattle.drawing.specs.Drawing.{rowIn}
+use denote.Ref.{now}
+use lib.ListN.{length}
+use mathlib.Core.Path.{_≡_}
 use Rattle.drawing.specs.Contracts.{rowSize}
+use Rattle.drawing.specs.Drawing.{rowIn}
 use Rattle.drawing.proofs.row.draw_row.Statement.{statement}
 use Rattle.drawing.proofs.row.draw_row.Tie as tie
 

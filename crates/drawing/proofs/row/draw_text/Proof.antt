@@ -1,8 +1,8 @@
 -- The loop fills the buffer with marks, a column a turn, and leaves room for the line end.
 use Prim.Native.Nat.{_-_, _/_, _%_, _≤_}
-use native.Mathlib.Nat.{le-antisymm}
-use lib.ListN.{getD, length-set}
 use borrow.Author.Needs.{needs}
+use lib.ListN.{getD, length-set}
+use native.Mathlib.Nat.{le-antisymm}
 use Rattle.lent.proofs.Lists.{Filled, filled-start, filled-next}
 use Rattle.drawing.specs.Row.{markOf, textRow}
 use Rattle.drawing.proofs.Rows.{values-end}

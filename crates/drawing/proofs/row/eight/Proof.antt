@@ -1,10 +1,10 @@
 -- The loop packs a bit a turn; what is packed so far is below a power of two.
 use Prim.Native.Nat.{_+_, _-_, _^_, _≤_, _<_}
+use borrow.Author.Needs.{needs}
+use lib.ListN.{getD}
 use mathlib.Core.Path.{_≡_, refl}
 use native.Mathlib.Nat.{le-antisymm}
 use native.Mathlib.Omega.{arith}
-use lib.ListN.{getD}
-use borrow.Author.Needs.{needs}
 use Rattle.drawing.specs.Row.{bitAt, packed}
 use Rattle.drawing.proofs.Rows.{below-128, packed-small, packed-next}
 use Rattle.drawing.proofs.row.eight.Statement.{statement}

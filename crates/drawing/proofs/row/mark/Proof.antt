@@ -1,7 +1,7 @@
 -- The tests of the column and of the dot decide the definition.
-use mathlib.Core.Path.{sym}
 use borrow.Author.Needs.{needs}
 use borrow.Author.Tests.{lt-ltb, le-ltb}
+use mathlib.Core.Path.{sym}
 use Rattle.drawing.specs.Row.{markOf}
 use Rattle.drawing.proofs.row.mark.Statement.{statement}
 use Rattle.drawing.proofs.row.mark.Tie as tie

@@ -1,9 +1,9 @@
 -- By the line count.
 use Prim.Native.Nat.{_/_, _%_}
+use borrow.Author.Needs.{needs}
 use mathlib.Core.Path.{_≡_}
 use native.Mathlib.Omega.{arith}
 use Rattle.halves.proofs.Waiting.{completed-by-lines}
-use borrow.Author.Needs.{needs}
 use Rattle.halves.proofs.Half.completed.Statement.{statement}
 use Rattle.halves.proofs.Half.completed.Tie as tie
 

@@ -1,8 +1,8 @@
 -- A case for each half.
+use borrow.Author.Needs.{needs}
 use mathlib.Core.Path.{refl}
 use Rattle.condition.proofs.Tests.{met}
 use Rattle.halves.specs.Halves.{disagrees}
-use borrow.Author.Needs.{needs}
 use Rattle.halves.proofs.Half.disagrees.Statement.{statement}
 use Rattle.halves.proofs.Half.disagrees.Tie as tie
 

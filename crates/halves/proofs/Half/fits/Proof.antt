@@ -1,8 +1,8 @@
 -- A case for each half, with the largest of its kind.
+use borrow.Author.Needs.{needs}
 use mathlib.Core.Path.{refl}
 use Rattle.condition.proofs.Tests.{met}
 use Rattle.halves.specs.Halves.{halfFits}
-use borrow.Author.Needs.{needs}
 use Rattle.halves.proofs.Half.fits.Statement.{statement}
 use Rattle.halves.proofs.Half.fits.Tie as tie
 

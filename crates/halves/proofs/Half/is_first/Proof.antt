@@ -1,8 +1,8 @@
 -- A case for each half.
+use borrow.Author.Needs.{needs}
 use mathlib.Core.Path.{refl}
 use Rattle.condition.proofs.Tests.{met}
 use Rattle.halves.specs.Halves.{isFirst}
-use borrow.Author.Needs.{needs}
 use Rattle.halves.proofs.Half.is_first.Statement.{statement}
 use Rattle.halves.proofs.Half.is_first.Tie as tie
 

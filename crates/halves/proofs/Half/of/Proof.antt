@@ -1,8 +1,8 @@
 -- By the kind, as the rule says.
 use Prim.Native.Nat.{_/_, _%_}
+use borrow.Author.Needs.{needs}
 use mathlib.Core.Path.{_≡_}
 use native.Mathlib.Omega.{arith}
-use borrow.Author.Needs.{needs}
 use Rattle.halves.proofs.Half.of.Statement.{statement}
 use Rattle.halves.proofs.Half.of.Tie as tie
 

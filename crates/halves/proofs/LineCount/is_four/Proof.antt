@@ -1,6 +1,6 @@
 -- A case for each line count.
-use Rattle.halves.specs.Halves.{isFour}
 use borrow.Author.Needs.{needs}
+use Rattle.halves.specs.Halves.{isFour}
 use Rattle.halves.proofs.LineCount.is_four.Statement.{statement}
 use Rattle.halves.proofs.LineCount.is_four.Tie as tie
 

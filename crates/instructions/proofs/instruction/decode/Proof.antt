@@ -1,10 +1,10 @@
 -- Each arm by the law of its range.
 use Prim.Native.Nat.{ℕ, _/_}
+use borrow.Author.Needs.{needs}
 use mathlib.Core.Path.{_≡_, sym}
 use native.Mathlib.Omega.{arith}
 use Rattle.instructions.specs.Instructions.{bit}
 use Rattle.instructions.proofs.Decoded.{decoded-by-range}
-use borrow.Author.Needs.{needs}
 use Rattle.instructions.proofs.instruction.decode.Statement.{statement}
 use Rattle.instructions.proofs.instruction.decode.Tie as tie
 

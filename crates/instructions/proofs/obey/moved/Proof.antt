@@ -1,6 +1,6 @@
 -- By what moves, the display or the counter.
-use Rattle.instructions.specs.Instructions.{moved}
 use borrow.Author.Needs.{needs}
+use Rattle.instructions.specs.Instructions.{moved}
 use Rattle.instructions.proofs.obey.moved.Statement.{statement}
 use Rattle.instructions.proofs.obey.moved.Tie as tie
 

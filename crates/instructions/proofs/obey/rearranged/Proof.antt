@@ -1,14 +1,14 @@
 -- A case for each line mode before and after.
+use borrow.Author.Needs.{needs}
 use mathlib.Core.Path.{_≡_, _∙_, refl, sym}
+use Rattle.controller.specs.Part.{placed}
+use Rattle.controller.specs.declared.registers.Registers.{Registers}
+use Rattle.counters.specs.Address.{display}
+use Rattle.counters.specs.Shift.{shift}
 use Rattle.counters.specs.declared.LineMode.{LineMode}
 use Rattle.counters.specs.declared.LineMode.the-variants.{One, Two}
 use Rattle.counters.specs.declared.counter.Counter.the-variants.{Display}
-use Rattle.counters.specs.Address.{display}
-use Rattle.counters.specs.Shift.{shift}
-use Rattle.controller.specs.declared.registers.Registers.{Registers}
-use Rattle.controller.specs.Part.{placed}
 use Rattle.instructions.specs.Instructions.{unlessChanged, rearranged}
-use borrow.Author.Needs.{needs}
 use Rattle.instructions.proofs.obey.rearranged.Statement.{statement}
 use Rattle.instructions.proofs.obey.rearranged.Tie as tie
 

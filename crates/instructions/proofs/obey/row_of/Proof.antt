@@ -1,16 +1,16 @@
 -- Each arm is its row of the table.
 use Prim.Native.Nat.{ℕ}
-use mathlib.Core.Path.{_≡_, refl}
+use borrow.Author.Needs.{needs}
 use mathlib.Core.Bool.{false}
-use Rattle.counters.specs.declared.address.DisplayAddress.{DisplayAddress}
-use Rattle.counters.specs.Address.{hasDisplay}
+use mathlib.Core.Path.{_≡_, refl}
 use Rattle.controller.specs.declared.answer.Answer.{Answer}
 use Rattle.controller.specs.declared.registers.Registers.{Registers}
-use Rattle.instructions.specs.declared.instruction.Instruction.{Instruction}
-use Rattle.instructions.specs.declared.instruction.Instruction.the-variants.{SetDisplay}
+use Rattle.counters.specs.Address.{hasDisplay}
+use Rattle.counters.specs.declared.address.DisplayAddress.{DisplayAddress}
 use Rattle.instructions.specs.Instructions.{rowOf, obey}
 use Rattle.instructions.specs.Obeyed.{obeyedAs}
-use borrow.Author.Needs.{needs}
+use Rattle.instructions.specs.declared.instruction.Instruction.{Instruction}
+use Rattle.instructions.specs.declared.instruction.Instruction.the-variants.{SetDisplay}
 use Rattle.instructions.proofs.obey.row_of.Statement.{statement}
 use Rattle.instructions.proofs.obey.row_of.Tie as tie
 
@@ -96,7 +96,9 @@ returns-7 c = does _ (c .before .before .instruction4 .given .1) refl (c .arrang
 
 returns-8 : tie.Need-returns-8
 unfolding rowOf
-returns-8 c = let met = c .before .before .before .before .before in does _ (met .instruction5 .given .1) refl refl refl
+returns-8 c =
+    let told = c .before .before .before .before in
+    does _ (told .before .instruction5 .given .1) refl refl refl
 
 returns-9 : tie.Need-returns-9
 unfolding rowOf

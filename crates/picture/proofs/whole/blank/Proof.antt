@@ -1,8 +1,8 @@
 -- The loop fills the buffer with zeros, a byte a turn.
 use Prim.Native.Nat.{_-_}
-use mathlib.Core.Path.{refl, _∙_}
-use lib.ListN.{length}
 use borrow.Author.Needs.{needs}
+use lib.ListN.{length}
+use mathlib.Core.Path.{refl, _∙_}
 use Rattle.lent.proofs.Lists.{Filled, filled-start, filled-next, filled-whole, values-replicate}
 use Rattle.picture.proofs.whole.blank.Statement.{statement}
 use Rattle.picture.proofs.whole.blank.Tie as tie

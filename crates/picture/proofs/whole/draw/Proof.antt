@@ -1,8 +1,8 @@
 -- With the display on the lines are drawn; off, the picture is all zeros.
 use Prim.Native.Nat.{ℕ}
-use mathlib.Core.Path.{ap, sym, _∙_}
-use lib.ListN.{replicate}
 use borrow.Author.Needs.{needs}
+use lib.ListN.{replicate}
+use mathlib.Core.Path.{ap, sym, _∙_}
 use Rattle.picture.proofs.Lines.{off-dots}
 use Rattle.picture.proofs.whole.draw.Statement.{statement}
 use Rattle.picture.proofs.whole.draw.Tie as tie

@@ -1,14 +1,14 @@
 -- The loop puts a line a turn behind those already there.
 use Prim.Native.Nat.{ℕ, _+_, _*_, _-_, _≤_}
+use borrow.Author.Needs.{needs}
+use denote.Ref.{now}
+use lib.ListN.{length}
 use mathlib.Core.Path.{_≡_, refl, ap, sym, _∙_}
 use native.Mathlib.Nat.{suc-mul, mul-assoc, mul-le-mul, mul-le-mul-right, le-antisymm}
 use native.Mathlib.Omega.{arith}
-use lib.ListN.{length}
-use denote.Ref.{now}
-use borrow.Author.Needs.{needs}
+use Rattle.dots.specs.Dots.{lineOf}
 use Rattle.lent.proofs.Lists.{length-parts, length-values, length-lent, Taken, taken-start, taken-next, taken-whole}
 use Rattle.size.specs.Size.{rowsOf}
-use Rattle.dots.specs.Dots.{lineOf}
 use Rattle.picture.specs.Picture.{pictureOf}
 use Rattle.picture.proofs.whole.draw_lines.Statement.{statement}
 use Rattle.picture.proofs.whole.draw_lines.Tie as tie

@@ -1,15 +1,15 @@
 -- By the memory that was written, and by shift on write.
-use mathlib.Core.Path.{_≡_, refl}
+use borrow.Author.Needs.{needs}
 use mathlib.Core.Bool.{true, false, not}
+use mathlib.Core.Path.{_≡_, refl}
+use Rattle.condition.proofs.Tests.{met}
+use Rattle.controller.specs.Part.{shiftMoved}
+use Rattle.controller.specs.declared.registers.Registers.{Registers}
 use Rattle.counters.specs.declared.address.DisplayAddress.{DisplayAddress}
 use Rattle.counters.specs.declared.counter.Counter.{Counter}
 use Rattle.counters.specs.declared.counter.Counter.the-variants.{Display}
 use Rattle.counters.specs.declared.shift.Shift.{Shift}
-use Rattle.controller.specs.declared.registers.Registers.{Registers}
-use Rattle.controller.specs.Part.{shiftMoved}
-use Rattle.condition.proofs.Tests.{met}
 use Rattle.step.specs.Data.{shiftAfter}
-use borrow.Author.Needs.{needs}
 use Rattle.step.proofs.data.shift_after.Statement.{statement}
 use Rattle.step.proofs.data.shift_after.Tie as tie
 

@@ -1,14 +1,14 @@
 -- The flag by the busy time, and the address below it.
 use Prim.Native.Nat.{_<_}
+use borrow.Author.Needs.{needs}
+use borrow.Author.Tests.{eq-eqb, ne-eqb}
 use mathlib.Core.Path.{_≡_}
 use native.Mathlib.Omega.{arith}
-use borrow.Author.Tests.{eq-eqb, ne-eqb}
 use Rattle.condition.proofs.Tests.{holds}
-use Rattle.counters.specs.Counter.{numberOn}
-use Rattle.counters.proofs.Laws.{number-below}
 use Rattle.controller.specs.declared.registers.Registers.{Registers}
+use Rattle.counters.proofs.Laws.{number-below}
+use Rattle.counters.specs.Counter.{numberOn}
 use Rattle.step.specs.Data.{statusOf}
-use borrow.Author.Needs.{needs}
 use Rattle.step.proofs.data.status.Statement.{statement}
 use Rattle.step.proofs.data.status.Tie as tie
 

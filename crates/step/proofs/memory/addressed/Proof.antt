@@ -1,6 +1,6 @@
 -- By the memory that the counter belongs to; the cell or the address is there.
-use Rattle.step.proofs.Stored.{cell-below, character-below, cell-read, character-read}
 use borrow.Author.Needs.{needs}
+use Rattle.step.proofs.Stored.{cell-below, character-below, cell-read, character-read}
 use Rattle.step.proofs.memory.addressed.Statement.{statement}
 use Rattle.step.proofs.memory.addressed.Tie as tie
 

@@ -1,6 +1,6 @@
 -- By the memory that the counter belongs to; the cell or the address is there.
-use Rattle.step.proofs.Stored.{cell-below, character-below, cell-stored, character-stored}
 use borrow.Author.Needs.{needs}
+use Rattle.step.proofs.Stored.{cell-below, character-below, cell-stored, character-stored}
 use Rattle.step.proofs.memory.store.Statement.{statement}
 use Rattle.step.proofs.memory.store.Tie as tie
 

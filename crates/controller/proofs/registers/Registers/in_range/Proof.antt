@@ -1,5 +1,6 @@
-use Rattle.controller.specs.Part.{inRange}
+-- The four tests of the rule, each by its own call.
 use borrow.Author.Needs.{needs}
+use Rattle.controller.specs.Part.{inRange}
 use Rattle.controller.proofs.registers.Registers.in_range.Statement.{statement}
 use Rattle.controller.proofs.registers.Registers.in_range.Tie as tie
 

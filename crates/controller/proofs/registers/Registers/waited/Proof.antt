@@ -1,9 +1,9 @@
 -- On both ways the busy time left is the difference, which stops at 0.
 use Prim.Native.Nat.{_-_}
-use mathlib.Core.Path.{_≡_}
-use mathlib.Core.Logic.{⊎-elim}
-use native.Mathlib.Omega.{arith}
 use borrow.Author.Needs.{needs}
+use mathlib.Core.Logic.{⊎-elim}
+use mathlib.Core.Path.{_≡_}
+use native.Mathlib.Omega.{arith}
 use Rattle.controller.specs.Part.{waited}
 use Rattle.controller.proofs.registers.Registers.waited.Statement.{statement}
 use Rattle.controller.proofs.registers.Registers.waited.Tie as tie

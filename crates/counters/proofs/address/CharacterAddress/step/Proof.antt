@@ -1,7 +1,7 @@
 -- The wrapping step to 3F, as an address.
+use borrow.Author.Needs.{needs}
 use mathlib.Core.Path.{ap}
 use Rattle.counters.specs.Address.{character, stepCharacter}
-use borrow.Author.Needs.{needs}
 use Rattle.counters.proofs.address.CharacterAddress.step.Statement.{statement}
 use Rattle.counters.proofs.address.CharacterAddress.step.Tie as tie
 

@@ -1,10 +1,10 @@
 -- By line mode and, with two lines, by the test of 40.
 use Prim.Native.Nat.{ℕ, _+_, _-_}
+use borrow.Author.Needs.{needs}
+use borrow.Author.Tests.{lt-ltb, le-ltb}
 use mathlib.Core.Path.{_≡_}
 use native.Mathlib.Omega.{arith}
-use borrow.Author.Tests.{lt-ltb, le-ltb}
 use Rattle.counters.specs.Address.{cellOf}
-use borrow.Author.Needs.{needs}
 use Rattle.counters.proofs.address.DisplayAddress.cell.Statement.{statement}
 use Rattle.counters.proofs.address.DisplayAddress.cell.Tie as tie
 

@@ -1,6 +1,6 @@
 -- By line mode, the test of the rule.
-use Rattle.counters.specs.Address.{hasDisplay}
 use borrow.Author.Needs.{needs}
+use Rattle.counters.specs.Address.{hasDisplay}
 use Rattle.counters.proofs.address.DisplayAddress.exists.Statement.{statement}
 use Rattle.counters.proofs.address.DisplayAddress.exists.Tie as tie
 

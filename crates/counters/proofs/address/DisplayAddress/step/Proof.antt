@@ -1,7 +1,6 @@
 -- By line mode and direction, the step that was called.
-use mathlib.Core.Path.{ap}
-use Rattle.counters.specs.Address.{display, stepDisplay}
 use borrow.Author.Needs.{needs}
+use Rattle.counters.specs.Address.{stepDisplay}
 use Rattle.counters.proofs.address.DisplayAddress.step.Statement.{statement}
 use Rattle.counters.proofs.address.DisplayAddress.step.Tie as tie
 

@@ -1,7 +1,7 @@
 -- By the memory that the counter belongs to, the test of its address.
+use borrow.Author.Needs.{needs}
 use Rattle.condition.proofs.Tests.{met}
 use Rattle.counters.specs.Counter.{hasCounter}
-use borrow.Author.Needs.{needs}
 use Rattle.counters.proofs.counter.Counter.exists.Statement.{statement}
 use Rattle.counters.proofs.counter.Counter.exists.Tie as tie
 

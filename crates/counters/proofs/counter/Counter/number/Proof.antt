@@ -1,8 +1,8 @@
 -- By the memory that the counter belongs to.
+use borrow.Author.Needs.{needs}
 use mathlib.Core.Path.{refl}
 use Rattle.condition.proofs.Tests.{met}
 use Rattle.counters.specs.Counter.{numberOn}
-use borrow.Author.Needs.{needs}
 use Rattle.counters.proofs.counter.Counter.number.Statement.{statement}
 use Rattle.counters.proofs.counter.Counter.number.Tie as tie
 

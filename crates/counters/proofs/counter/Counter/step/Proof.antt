@@ -1,9 +1,9 @@
 -- By the memory that the counter belongs to, the step of its address.
+use borrow.Author.Needs.{needs}
 use mathlib.Core.Path.{ap}
 use Rattle.condition.proofs.Tests.{met}
-use Rattle.counters.specs.declared.counter.Counter.the-variants.{Display, Character}
 use Rattle.counters.specs.Counter.{stepOf}
-use borrow.Author.Needs.{needs}
+use Rattle.counters.specs.declared.counter.Counter.the-variants.{Display, Character}
 use Rattle.counters.proofs.counter.Counter.step.Statement.{statement}
 use Rattle.counters.proofs.counter.Counter.step.Tie as tie
 

@@ -1,6 +1,6 @@
 -- The test of the rule, by the last shift that was called for.
-use Rattle.counters.specs.Shift.{hasShift}
 use borrow.Author.Needs.{needs}
+use Rattle.counters.specs.Shift.{hasShift}
 use Rattle.counters.proofs.shift.Shift.exists.Statement.{statement}
 use Rattle.counters.proofs.shift.Shift.exists.Tie as tie
 

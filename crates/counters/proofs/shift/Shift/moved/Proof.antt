@@ -1,6 +1,6 @@
 -- The wrapping step to the last shift, as a shift.
-use Rattle.counters.specs.Shift.{moveOf}
 use borrow.Author.Needs.{needs}
+use Rattle.counters.specs.Shift.{moveOf}
 use Rattle.counters.proofs.shift.Shift.moved.Statement.{statement}
 use Rattle.counters.proofs.shift.Shift.moved.Tie as tie
 

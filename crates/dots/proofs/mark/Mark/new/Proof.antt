@@ -1,6 +1,6 @@
 -- Field by field; the digit found is the marked one by what digit_at tells.
-use mathlib.Core.Path.{refl}
 use borrow.Author.Needs.{needs}
+use mathlib.Core.Path.{refl}
 use Rattle.dots.specs.Dots.{isMarked}
 use Rattle.dots.proofs.mark.Mark.new.Statement.{statement}
 use Rattle.dots.proofs.mark.Mark.new.Tie as tie

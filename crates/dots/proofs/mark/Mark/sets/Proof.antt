@@ -1,6 +1,6 @@
 -- The code is the definition.
-use mathlib.Core.Path.{refl}
 use borrow.Author.Needs.{needs}
+use mathlib.Core.Path.{refl}
 use Rattle.dots.specs.Dots.{isSet}
 use Rattle.dots.proofs.mark.Mark.sets.Statement.{statement}
 use Rattle.dots.proofs.mark.Mark.sets.Tie as tie
