@@ -5,12 +5,11 @@ use mathlib.Core.List.{List}
 use lib.Dec.{ltb, eqb}
 use lib.ListN.{length}
 use Rattle.controller.specs.declared.Controller.{Controller}
-use Rattle.controller.specs.Part.{switchedOn}
 use Rattle.size.specs.Size.{hasDigits}
 use Rattle.dots.specs.declared.phase.Phase.{Phase}
 use Rattle.dots.specs.Dots.{imageSize}
 use Rattle.picture.specs.Picture.{pictureOf}
-use Rattle.record.specs.Record.{eventsOf, checkOf}
+use Rattle.record.specs.Record.{mostBytes, eventsOf, checkOf}
 use Rattle.run.specs.Run.{ranOf}
 use Rattle.text.specs.Text.{textOf, refusedOf}
 use Rattle.drawing.specs.declared.form.Form.{Form}
@@ -28,5 +27,5 @@ shownOf c digits phase form rom =
 -- `too long` for more than 12,291 bytes, checked first; then 7, 8 and 9 for the record; then the picture of the part that its events leave
 unfoldable pub viewOf : (digits : ℕ) → Phase → Form → (rom bytes : List ℕ) → List ℕ
 viewOf digits phase form rom bytes =
-    cond (ltb 12291 (length bytes)) (textOf "too long\n")
-    (cond (eqb (checkOf bytes) 0) (shownOf (ranOf (eventsOf bytes) switchedOn) digits phase form rom) (refusedOf (checkOf bytes)))
+    cond (ltb mostBytes (length bytes)) (textOf "too long\n")
+    (cond (eqb (checkOf bytes) 0) (shownOf (ranOf (eventsOf bytes)) digits phase form rom) (refusedOf (checkOf bytes)))
