@@ -6,17 +6,22 @@ use mathlib.Core.List.{List}
 use lib.Dec.{eqb}
 use lib.ListN.{length}
 use lib.Seq.{drop-append-seam}
+use Rattle.lent.specs.Buffer.{over, unlessRefused}
 use Rattle.controller.specs.declared.Controller.{Controller}
+use Rattle.dots.specs.declared.phase.Phase.{Phase}
 use Rattle.picture.specs.declared.Answer.{Answer}
-use Rattle.picture.specs.declared.Phase.{Phase}
-use Rattle.picture.specs.Table.{over}
 use Rattle.picture.specs.Picture.{pictureOf}
 use Rattle.picture.specs.Answers.{numberOf, answerFor, bufferFor, Pictured}
 
-written-again : (b : Bool) (new out : List ℕ) → cond b (over new (cond b (over new out) out)) (cond b (over new out) out) ≡ cond b (over new out) out
+-- by the test that the number is 0
+by-test : (b : Bool) (new out : List ℕ) → cond b (over new (cond b (over new out) out)) (cond b (over new out) out) ≡ cond b (over new out) out
 unfolding over
-written-again true new out = rw (drop-append-seam new _)
-written-again false new out = refl
+by-test true new out = rw (drop-append-seam new _)
+by-test false new out = refl
+
+written-again : (number : ℕ) (new out : List ℕ) → unlessRefused number new (unlessRefused number new out) ≡ unlessRefused number new out
+unfolding unlessRefused
+written-again number new out = by-test (eqb number 0) new out
 
 module _ (c : Controller) (digits : ℕ) (rom : List ℕ) (phase : Phase) (out once : List ℕ) (first : Answer) (p : Pictured c digits rom phase out first once)
     (e : length once ≡ length out) (twice : List ℕ) (second : Answer) (q : Pictured c digits rom phase once second twice) where
@@ -27,5 +32,5 @@ module _ (c : Controller) (digits : ℕ) (rom : List ℕ) (phase : Phase) (out o
   unfolding bufferFor
   drawn-again =
       rw (e, p .buffer) at (q .buffer)
-      ∙ written-again (eqb (answerFor c digits (length rom) (length out)) 0) (pictureOf c digits rom phase) out
+      ∙ written-again (answerFor c digits (length rom) (length out)) (pictureOf c digits rom phase) out
       ∙ sym (p .buffer)
