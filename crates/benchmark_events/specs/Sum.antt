@@ -1,11 +1,11 @@
 -- The checksum of all answers, which the C model makes of the same events.
 use Prim.Native.Nat.{ℕ, _+_, _*_, _%_}
+use mathlib.Core.List.{List, [], _∷_}
 use lib.ListN.{drop}
-use mathlib.Core.List.{List, [], _∷_, map}
-use Rattle.bus.specs.Events.{Said, saidBy}
 use Rattle.controller.specs.declared.Controller.{Controller}
-use Rattle.record.specs.Record.{runIn}
-use Rattle.run.specs.Run.{eventOn}
+use Rattle.controller.specs.Answers.{Said}
+use Rattle.bus.specs.Events.{saidBy}
+use Rattle.record.specs.Record.{frontEvents}
 
 -- an answer and the value read, folded into 32 bits
 abbrev pub foldedOf : (sum number value : ℕ) → ℕ
@@ -15,6 +15,6 @@ unfoldable pub sumOver : ℕ → List Said → ℕ
 sumOver sum [] = sum
 sumOver sum (said ∷ more) = sumOver (foldedOf sum (said .number) (said .value)) more
 
--- over all that the run of events from a place of a record is answered
+-- over all that the events from a place of a record on are answered
 unfoldable pub sumFrom : (sum place : ℕ) → List ℕ → Controller → ℕ
-sumFrom sum place bytes c = sumOver sum (saidBy (map eventOn (runIn (drop place bytes))) c)
+sumFrom sum place bytes c = sumOver sum (saidBy (frontEvents (drop place bytes)) c)

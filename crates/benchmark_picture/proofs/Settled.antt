@@ -1,6 +1,6 @@
 -- Any two outcomes that the promise of `benchmark_picture` allows are equal.
-use mathlib.Core.Path.{sym, _∙_}
-use Rattle.benchmark_picture.specs.Theorems.{PictureSettled}
+use Rattle.condition.proofs.Settled.{settled}
+use Rattle.benchmark_picture.specs.Theorems.{BenchmarkPictureSettled}
 
-pub picture-settled : PictureSettled
-picture-settled bytes digits rom dark out number number′ left left′ p q = (p .answer ∙ sym (q .answer), p .buffer ∙ sym (q .buffer))
+pub benchmark-picture-settled : BenchmarkPictureSettled
+benchmark-picture-settled bytes digits rom dark out number number′ left left′ p q = (settled (p .answer) (q .answer), settled (p .buffer) (q .buffer))

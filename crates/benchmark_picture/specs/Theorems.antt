@@ -5,8 +5,8 @@ use mathlib.Core.List.{List}
 use mathlib.Core.Path.{_≡_}
 use Rattle.benchmark_picture.specs.Drawn.{Drawn}
 
-abbrev pub PictureSettled : Type 0
-PictureSettled =
+abbrev pub BenchmarkPictureSettled : Type 0
+BenchmarkPictureSettled =
     (bytes : List ℕ) (digits : ℕ) (rom : List ℕ) (dark : Bool) (out : List ℕ) (number number′ : ℕ) (left left′ : List ℕ)
     → Drawn bytes digits rom dark out number left
     → Drawn bytes digits rom dark out number′ left′

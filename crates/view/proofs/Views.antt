@@ -1,39 +1,38 @@
 -- Laws of a view: `too long`, a refused record, or the picture of a part in range.
 use Prim.Native.Nat.{ℕ, _<_, _≤_}
-use borrow.Author.Tests.{lt-ltb, le-ltb, eq-eqb, ne-eqb}
-use lib.ListN.{length}
-use mathlib.Core.Bool.{true}
-use mathlib.Core.List.{List, map}
 use mathlib.Core.Path.{_≡_, _∙_}
-use Rattle.bus.proofs.Range.{reached-in-range}
+use mathlib.Core.Bool.{true}
+use mathlib.Core.List.{List}
+use lib.ListN.{length}
+use borrow.Author.Tests.{lt-ltb, le-ltb, eq-eqb, ne-eqb}
 use Rattle.condition.proofs.Tests.{is-true}
-use Rattle.controller.specs.Part.{inRange, switchedOn}
 use Rattle.controller.specs.declared.Controller.{Controller}
+use Rattle.controller.specs.Part.{inRange}
 use Rattle.dots.specs.declared.phase.Phase.{Phase}
-use Rattle.drawing.specs.declared.form.Form.{Form}
-use Rattle.record.specs.Record.{eventsOf, checkOf}
-use Rattle.run.specs.Run.{eventOn, ranOf, Running}
+use Rattle.record.specs.Record.{mostBytes, eventsOf, checkOf}
 use Rattle.run.specs.declared.Ran.{Ran}
+use Rattle.run.specs.Run.{ranOf, Running}
+use Rattle.run.proofs.InRange.{ran-in-range}
 use Rattle.text.specs.Text.{textOf, refusedOf}
+use Rattle.drawing.specs.declared.form.Form.{Form}
 use Rattle.view.specs.View.{shownOf, viewOf}
 
 module _ (digits : ℕ) (phase : Phase) (form : Form) (rom bytes : List ℕ) where
-  pub view-long : 12291 < length bytes → viewOf digits phase form rom bytes ≡ textOf "too long\n"
+  pub view-long : mostBytes < length bytes → viewOf digits phase form rom bytes ≡ textOf "too long\n"
   unfolding viewOf
-  view-long h = rw (lt-ltb 12291 (length bytes) h)
+  view-long h = rw (lt-ltb mostBytes (length bytes) h)
 
-  pub view-refused : (n : ℕ) → length bytes ≤ 12291 → n ≡ checkOf bytes → (n ≡ 0 → ⊥) → viewOf digits phase form rom bytes ≡ refusedOf n
+  pub view-refused : (n : ℕ) → length bytes ≤ mostBytes → n ≡ checkOf bytes → (n ≡ 0 → ⊥) → viewOf digits phase form rom bytes ≡ refusedOf n
   unfolding viewOf
-  view-refused n h e k = rw (le-ltb 12291 (length bytes) h, ← e, ne-eqb n 0 k)
+  view-refused n h e k = rw (le-ltb mostBytes (length bytes) h, ← e, ne-eqb n 0 k)
 
-  pub view-shown : (c : Controller) → length bytes ≤ 12291 → checkOf bytes ≡ 0 → c ≡ ranOf (eventsOf bytes) switchedOn → viewOf digits phase form rom bytes ≡ shownOf c digits phase form rom
+  pub view-shown : (c : Controller) → length bytes ≤ mostBytes → checkOf bytes ≡ 0 → c ≡ ranOf (eventsOf bytes) → viewOf digits phase form rom bytes ≡ shownOf c digits phase form rom
   unfolding viewOf
-  view-shown c h e k = rw (le-ltb 12291 (length bytes) h, eq-eqb (checkOf bytes) 0 e, k)
+  view-shown c h e k = rw (le-ltb mostBytes (length bytes) h, eq-eqb (checkOf bytes) 0 e, k)
 
 -- ---- the part that a sound record leaves
-pub ran-told : (bytes : List ℕ) (r : Ran) → Running bytes r → checkOf bytes ≡ 0 → r .controller ≡ ranOf (eventsOf bytes) switchedOn
+pub ran-told : (bytes : List ℕ) (r : Ran) → Running bytes r → checkOf bytes ≡ 0 → r .controller ≡ ranOf (eventsOf bytes)
 ran-told bytes r p e = p .controller ∙ rw (eq-eqb (checkOf bytes) 0 e)
 
-pub ran-in-range : (bytes : List ℕ) (c : Controller) → c ≡ ranOf (eventsOf bytes) switchedOn → inRange (c .registers) ≡ true
-unfolding ranOf
-ran-in-range bytes c e = rw e (is-true _ (reached-in-range (map eventOn (eventsOf bytes))))
+pub told-in-range : (bytes : List ℕ) (c : Controller) → c ≡ ranOf (eventsOf bytes) → inRange (c .registers) ≡ true
+told-in-range bytes c e = rw e (is-true _ (ran-in-range (eventsOf bytes)))

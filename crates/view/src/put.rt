@@ -55,7 +55,7 @@ pub(crate) fn put_view(
     }
     let ran = run::run(bytes);
     let answer = ran.answer;
-    let refused = record::number(answer);
+    let refused = answer.number();
     if refused != 0 {
         return put_refused(refused, out);
     }

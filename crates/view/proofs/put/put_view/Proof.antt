@@ -1,11 +1,10 @@
 -- Each return is one way of the definition: too long, a refused record, or the part that it leaves.
-use borrow.Author.Needs.{needs}
-use denote.Ref.{now}
 use mathlib.Core.Path.{_≡_, sym, _∙_}
-use Rattle.controller.specs.Part.{switchedOn}
+use denote.Ref.{now}
+use borrow.Author.Needs.{needs}
 use Rattle.record.specs.Record.{eventsOf, checkOf}
 use Rattle.run.specs.Run.{ranOf}
-use Rattle.view.proofs.Views.{view-long, view-refused, view-shown, ran-told, ran-in-range}
+use Rattle.view.proofs.Views.{view-long, view-refused, view-shown, ran-told, told-in-range}
 use Rattle.view.proofs.put.put_view.Statement.{statement}
 use Rattle.view.proofs.put.put_view.Tie as tie
 
@@ -16,7 +15,7 @@ start c = let short = c .before in short .before .before .before .before
 sound : (c : tie.Else2) → checkOf (now (start (c .before .before) .args .bytes)) ≡ 0
 sound c = sym (c .before .number .ensures ∙ c .before .before .run .ensures .number) ∙ c .if2 .left
 
-ran : (c : tie.Else2) → c .before .before .run .result .controller ≡ ranOf (eventsOf (now (start (c .before .before) .args .bytes))) switchedOn
+ran : (c : tie.Else2) → c .before .before .run .result .controller ≡ ranOf (eventsOf (now (start (c .before .before) .args .bytes)))
 ran c = ran-told _ _ (c .before .before .run .ensures) (sound c)
 
 slice-aggregate-put-text : tie.Need-slice-aggregate-put-text
@@ -52,7 +51,7 @@ returns-2 c =
     rw (view-refused _ _ _ _ _ (at-number .number .result) (at-number .before .before .if1 .left) (at-number .number .ensures ∙ at-number .before .run .ensures .number) (tested .if2 .taken)) (c .before .before .put-refused .ensures)
 
 show-requires : tie.Need-show-requires
-show-requires c κs = (ran-in-range _ _ (ran (c .before .before)), search needs)
+show-requires c κs = (told-in-range _ _ (ran (c .before .before)), search needs)
 
 same-length-3 : tie.Need-same-length-3
 same-length-3 c = search needs
