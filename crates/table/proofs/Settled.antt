@@ -7,10 +7,7 @@ use Rattle.condition.proofs.Settled.{settled, settled-by-both}
 use Rattle.table.specs.declared.Answer.{Answer}
 use Rattle.table.specs.declared.Answer.the-variants.{Done, ShortBuffer}
 use Rattle.table.specs.Answers.{numberOf, valueOf}
-use Rattle.table.specs.Theorems.{NumberSettled, ValueSettled, TableSettled}
-
-pub number-settled : NumberSettled
-number-settled answer r r′ e e′ = settled e e′
+use Rattle.table.specs.Theorems.{ValueSettled, TableSettled}
 
 pub value-settled : ValueSettled
 value-settled answer r r′ e e′ = settled e e′

@@ -7,13 +7,10 @@ use Rattle.condition.proofs.Settled.{settled, settled-by-both}
 use Rattle.view.specs.declared.Answer.{Answer}
 use Rattle.view.specs.declared.Answer.the-variants.{Done, ShortBuffer}
 use Rattle.view.specs.Answers.{numberOf, valueOf}
-use Rattle.view.specs.Theorems.{WordsSettled, NumberSettled, ValueSettled, ViewSettled}
+use Rattle.view.specs.Theorems.{WordsSettled, ValueSettled, ViewSettled}
 
 pub words-settled : WordsSettled
 words-settled words digits phase form asked other p q = settled p q
-
-pub number-settled : NumberSettled
-number-settled answer r other p q = settled p q
 
 pub value-settled : ValueSettled
 value-settled answer r other p q = settled p q

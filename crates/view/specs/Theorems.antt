@@ -20,9 +20,6 @@ WordsSettled =
     → other ≡ askedBy words digits phase form
     → asked ≡ other
 
-abbrev pub NumberSettled : Type 0
-NumberSettled = (answer : Answer) (r other : ℕ) → r ≡ numberOf answer → other ≡ numberOf answer → r ≡ other
-
 abbrev pub ValueSettled : Type 0
 ValueSettled = (answer : Answer) (r other : ℕ) → r ≡ valueOf answer → other ≡ valueOf answer → r ≡ other
 

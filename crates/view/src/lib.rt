@@ -1,6 +1,6 @@
 // The words that `screen` is started with, and what it prints, as bytes in a lent buffer.
 ghost use mathlib.Core.Path.{_≡_};
-ghost use Rattle.view.specs.Answers.{numberOf, valueOf, Viewed};
+ghost use Rattle.view.specs.Answers.{valueOf, Viewed};
 
 mod count;
 mod put;
@@ -20,16 +20,6 @@ pub enum Answer {
 }
 
 impl Answer {
-    // This paper's number.
-    pub fn number(self) -> u8
-        ensures { λ r. ⌜ r ≡ numberOf self ⌝ }
-    {
-        match self {
-            Answer::Done(_) => 0,
-            Answer::ShortBuffer => 6,
-        }
-    }
-
     // How many bytes were written; 0 beside a refusal.
     pub fn value(self) -> usize
         ensures { λ r. ⌜ r ≡ valueOf self ⌝ }
