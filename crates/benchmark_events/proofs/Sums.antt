@@ -1,12 +1,12 @@
 -- Laws of the sum over what the events are answered.
 use Prim.Native.Nat.{ℕ, _+_}
-use mathlib.Core.Path.{_≡_}
-use mathlib.Core.List.{List, [], _∷_}
 use lib.ListN.{drop}
-use Rattle.event.specs.declared.Event.{Event}
-use Rattle.controller.specs.declared.Controller.{Controller}
-use Rattle.controller.specs.Told.{Told}
+use mathlib.Core.List.{List, [], _∷_}
+use mathlib.Core.Path.{_≡_}
 use Rattle.bus.specs.Events.{toldBy, saidBy}
+use Rattle.controller.specs.Told.{Told}
+use Rattle.controller.specs.declared.Controller.{Controller}
+use Rattle.event.specs.declared.Event.{Event}
 use Rattle.record.specs.Record.{frontEvents}
 use Rattle.benchmark_events.specs.Sum.{foldedOf, sumOver, sumFrom}
 

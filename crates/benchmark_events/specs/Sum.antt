@@ -1,10 +1,10 @@
 -- The checksum of all answers, which the C model makes of the same events.
 use Prim.Native.Nat.{ℕ, _+_, _*_, _%_}
-use mathlib.Core.List.{List, [], _∷_}
 use lib.ListN.{drop}
-use Rattle.controller.specs.declared.Controller.{Controller}
-use Rattle.controller.specs.Answers.{Said}
+use mathlib.Core.List.{List, [], _∷_}
 use Rattle.bus.specs.Events.{saidBy}
+use Rattle.controller.specs.Answers.{Said}
+use Rattle.controller.specs.declared.Controller.{Controller}
 use Rattle.record.specs.Record.{frontEvents}
 
 -- an answer and the value read, folded into 32 bits

@@ -1,7 +1,7 @@
 -- Any two outcomes that the promise of `benchmark_events` allows are equal.
 use Prim.Native.Nat.{ℕ}
-use mathlib.Core.Path.{_≡_}
 use mathlib.Core.List.{List}
+use mathlib.Core.Path.{_≡_}
 use Rattle.run.specs.Run.{startedFrom}
 use Rattle.benchmark_events.specs.Sum.{sumFrom}
 

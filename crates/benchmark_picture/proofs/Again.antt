@@ -1,17 +1,17 @@
 -- A picture that is drawn over itself is the same picture, with the same answer.
 use Prim.Native.Nat.{ℕ}
-use mathlib.Core.Path.{_≡_, refl, sym, ap, _∙_}
-use mathlib.Core.Bool.{Bool, true, false, cond}
-use mathlib.Core.List.{List}
 use lib.Dec.{eqb}
 use lib.ListN.{length}
 use lib.Seq.{drop-append-seam}
-use Rattle.lent.specs.Buffer.{over, unlessRefused}
+use mathlib.Core.Bool.{Bool, true, false, cond}
+use mathlib.Core.List.{List}
+use mathlib.Core.Path.{_≡_, refl, sym, ap, _∙_}
 use Rattle.controller.specs.declared.Controller.{Controller}
 use Rattle.dots.specs.declared.phase.Phase.{Phase}
-use Rattle.picture.specs.declared.Answer.{Answer}
-use Rattle.picture.specs.Picture.{pictureOf}
+use Rattle.lent.specs.Buffer.{over, unlessRefused}
 use Rattle.picture.specs.Answers.{numberOf, answerFor, bufferFor, Pictured}
+use Rattle.picture.specs.Picture.{pictureOf}
+use Rattle.picture.specs.declared.Answer.{Answer}
 
 -- by the test that the number is 0
 by-test : (b : Bool) (new out : List ℕ) → cond b (over new (cond b (over new out) out)) (cond b (over new out) out) ≡ cond b (over new out) out

@@ -1,12 +1,12 @@
 -- The picture of the part that a record leaves.
 use Prim.Native.Nat.{ℕ}
-use mathlib.Core.Path.{_≡_}
+use lib.ListN.{length}
 use mathlib.Core.Bool.{Bool, true, false}
 use mathlib.Core.List.{List}
-use lib.ListN.{length}
-use Rattle.run.specs.Run.{leftBy}
+use mathlib.Core.Path.{_≡_}
 use Rattle.dots.specs.declared.phase.Phase.{Phase}
 use Rattle.picture.specs.Answers.{answerFor, bufferFor}
+use Rattle.run.specs.Run.{leftBy}
 
 abbrev pub phaseOf : Bool → Phase
 phaseOf true = Phase.Dark

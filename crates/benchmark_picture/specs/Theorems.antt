@@ -1,8 +1,8 @@
 -- Any two outcomes that the promise of `benchmark_picture` allows are equal.
 use Prim.Native.Nat.{ℕ}
-use mathlib.Core.Path.{_≡_}
 use mathlib.Core.Bool.{Bool}
 use mathlib.Core.List.{List}
+use mathlib.Core.Path.{_≡_}
 use Rattle.benchmark_picture.specs.Drawn.{Drawn}
 
 abbrev pub BenchmarkPictureSettled : Type 0

@@ -1,26 +1,26 @@
 -- Laws of the lines of a table.
 use Prim.Native.Nat.{ℕ, _+_, _≤_, _<_}
-use mathlib.Core.Path.{_≡_}
-use mathlib.Core.List.{List, [], _∷_, _++_}
-use native.Mathlib.Numerals.{add-one}
-use native.Mathlib.Omega.{arith}
 use lib.ListN.{length, drop, getD, length-append, drop-of-length-le}
 use lib.Seq.{drop-cons}
+use mathlib.Core.List.{List, [], _∷_, _++_}
+use mathlib.Core.Path.{_≡_}
+use native.Mathlib.Numerals.{add-one}
+use native.Mathlib.Omega.{arith}
+use Rattle.controller.specs.Answers.{saidOf}
+use Rattle.controller.specs.declared.answer.Answer.{Answer}
+use Rattle.controller.specs.declared.answer.Answer.the-variants.{Done, FirstHalf, Busy, HalvesDisagree, NoSuchAddress, NotInRange}
+use Rattle.event.specs.Kind.{numberOn}
 use Rattle.event.specs.declared.Event.{Event}
 use Rattle.event.specs.declared.Event.the-variants.{Transfer, Wait}
 use Rattle.event.specs.declared.Kind.{Kind}
 use Rattle.event.specs.declared.Kind.the-variants.{InstructionWrite, DataWrite, StatusRead, DataRead}
-use Rattle.event.specs.Kind.{numberOn}
-use Rattle.controller.specs.declared.answer.Answer.{Answer}
-use Rattle.controller.specs.declared.answer.Answer.the-variants.{Done, FirstHalf, Busy, HalvesDisagree, NoSuchAddress, NotInRange}
-use Rattle.controller.specs.Answers.{saidOf}
-use Rattle.record.specs.Event.{rawOf}
+use Rattle.lent.proofs.Placed.{Awaits, puts-then, awaits-none, awaits-room, awaits-more}
 use Rattle.lent.specs.Put.{Puts}
+use Rattle.record.specs.Event.{rawOf}
+use Rattle.text.proofs.Decimal.{digits-below}
 use Rattle.text.specs.Text.{decimalOf, textOf}
 use Rattle.table.specs.Contracts.{Narrow}
 use Rattle.table.specs.Table.{spaced, lineOf, lineBytes}
-use Rattle.text.proofs.Decimal.{digits-below}
-use Rattle.lent.proofs.Placed.{Awaits, puts-then, awaits-none, awaits-room, awaits-more}
 
 -- ---- numbers with a space behind each
 

@@ -1,7 +1,7 @@
 -- The paper's example holds, by computation.
 use mathlib.Core.Path.{refl}
-use Rattle.condition.specs.First.{firstOf}
 use Rattle.bus.specs.Rules.{rules}
+use Rattle.condition.specs.First.{firstOf}
 use Rattle.record.specs.Event.{eventOf}
 use Rattle.record.specs.Record.{frontEvents, eventsIn, eventsOf, anyIllFormed, badEvents, checkOf}
 use Rattle.text.specs.Text.{digitsOf, decimalOf}

@@ -1,18 +1,18 @@
 -- The three texts, and what each answer leaves.
 use Prim.Native.Nat.{ℕ, _≤_, _<_}
-use mathlib.Core.Path.{_≡_, sym, _∙_}
-use mathlib.Core.List.{List}
 use borrow.Author.Tests.{lt-ltb, le-ltb, eq-eqb, ne-eqb}
 use lib.ListN.{length}
+use mathlib.Core.List.{List}
+use mathlib.Core.Path.{_≡_, sym, _∙_}
 use Rattle.condition.specs.First.{firstOf}
-use Rattle.lent.specs.Put.{Puts}
-use Rattle.lent.proofs.Left.{refused-keeps}
 use Rattle.lent.proofs.Front.{front-written}
+use Rattle.lent.proofs.Left.{refused-keeps}
+use Rattle.lent.specs.Put.{Puts}
 use Rattle.record.specs.Record.{mostBytes, checkOf}
 use Rattle.text.specs.Text.{textOf, refusedOf}
-use Rattle.table.specs.declared.Answer.the-variants.{Done, ShortBuffer}
-use Rattle.table.specs.Table.{tableOf, printedOf, mostText}
 use Rattle.table.specs.Answers.{answerFor, valueFor, Tabling}
+use Rattle.table.specs.Table.{tableOf, printedOf, mostText}
+use Rattle.table.specs.declared.Answer.the-variants.{Done, ShortBuffer}
 
 module _ (bytes out : List ℕ) (r : ℕ) (left : List ℕ) where
   pub prints-too-long : mostBytes < length bytes → Puts (textOf "too long\n") 0 out r left → Puts (printedOf bytes) 0 out r left

@@ -1,13 +1,13 @@
 -- The promises settle each answer and every byte of the buffer: an answer is had back from its number and value.
 use Prim.Native.Nat.{ℕ}
-use mathlib.Core.Path.{_≡_, refl}
-use mathlib.Core.Bool.{cond}
 use lib.Dec.{eqb}
+use mathlib.Core.Bool.{cond}
+use mathlib.Core.Path.{_≡_, refl}
 use Rattle.condition.proofs.Settled.{settled, settled-by-both}
-use Rattle.table.specs.declared.Answer.{Answer}
-use Rattle.table.specs.declared.Answer.the-variants.{Done, ShortBuffer}
 use Rattle.table.specs.Answers.{numberOf, valueOf}
 use Rattle.table.specs.Theorems.{ValueSettled, TableSettled}
+use Rattle.table.specs.declared.Answer.{Answer}
+use Rattle.table.specs.declared.Answer.the-variants.{Done, ShortBuffer}
 
 pub value-settled : ValueSettled
 value-settled answer r r′ e e′ = settled e e′

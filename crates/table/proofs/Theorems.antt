@@ -1,17 +1,17 @@
 -- When a table is refused, and where its text stands.
 use Prim.Native.Nat.{ℕ, _≤_}
-use mathlib.Core.Path.{_≡_, refl, ap, sym, _∙_}
-use mathlib.Core.List.{List}
-use native.Mathlib.Omega.{arith}
 use lib.ListN.{length, take, length-take}
-use Rattle.condition.specs.First.{absent, distinct}
+use mathlib.Core.List.{List}
+use mathlib.Core.Path.{_≡_, refl, ap, sym, _∙_}
+use native.Mathlib.Omega.{arith}
 use Rattle.condition.proofs.First.{first-given-exactly}
+use Rattle.condition.specs.First.{absent, distinct}
 use Rattle.lent.proofs.Left.{front-and-rest}
+use Rattle.table.specs.Answers.{numberOf, valueOf, refusals, answerFor, valueFor, Tabling}
+use Rattle.table.specs.Table.{printedOf}
+use Rattle.table.specs.Theorems.{TableGivenExactly, AtTheFront}
 use Rattle.table.specs.declared.Answer.{Answer}
 use Rattle.table.specs.declared.Answer.the-variants.{Done, ShortBuffer}
-use Rattle.table.specs.Table.{printedOf}
-use Rattle.table.specs.Answers.{numberOf, valueOf, refusals, answerFor, valueFor, Tabling}
-use Rattle.table.specs.Theorems.{TableGivenExactly, AtTheFront}
 
 pub table-given-exactly : TableGivenExactly
 unfolding answerFor absent distinct

@@ -1,19 +1,19 @@
 -- Laws of the lines of a record's events.
 use Prim.Native.Nat.{ℕ, _+_, _≤_}
-use mathlib.Core.Path.{_≡_}
-use mathlib.Core.List.{List, [], _∷_}
 use lib.ListN.{length, drop}
-use Rattle.event.specs.declared.Event.{Event}
-use Rattle.controller.specs.declared.Controller.{Controller}
-use Rattle.controller.specs.Told.{Told}
+use mathlib.Core.List.{List, [], _∷_}
+use mathlib.Core.Path.{_≡_}
 use Rattle.bus.specs.Events.{toldBy}
+use Rattle.controller.specs.Told.{Told}
+use Rattle.controller.specs.declared.Controller.{Controller}
+use Rattle.event.specs.declared.Event.{Event}
+use Rattle.lent.proofs.Placed.{Awaits, awaits-all, awaits-none, awaits-more}
+use Rattle.lent.specs.Put.{Puts}
+use Rattle.record.proofs.InTurn.{sound-events}
 use Rattle.record.specs.Event.{rawOf}
 use Rattle.record.specs.Record.{frontEvents, eventsOf, checkOf}
-use Rattle.record.proofs.InTurn.{sound-events}
 use Rattle.run.specs.Run.{startedFrom}
-use Rattle.lent.specs.Put.{Puts}
 use Rattle.table.specs.Table.{lineOf, eventLines}
-use Rattle.lent.proofs.Placed.{Awaits, awaits-all, awaits-none, awaits-more}
 
 pub lines-start : (bytes : List ℕ) (c : Controller) (place : ℕ) (out : List ℕ) → checkOf bytes ≡ 0 → c ≡ startedFrom
     → Awaits (eventLines 1 (frontEvents (drop 3 bytes)) c) place out (eventLines 1 (eventsOf bytes) startedFrom) place out

@@ -1,15 +1,15 @@
 -- "Refusal numbers": the number and value for each answer to a table, when it is given, and what a call leaves.
 use Prim.Native.Nat.{ℕ}
-use mathlib.Core.Path.{_≡_}
-use mathlib.Core.Bool.{cond}
-use mathlib.Core.List.{List, [], _∷_}
 use lib.Dec.{ltb, eqb}
 use lib.ListN.{length}
+use mathlib.Core.Bool.{cond}
+use mathlib.Core.List.{List, [], _∷_}
+use mathlib.Core.Path.{_≡_}
 use Rattle.condition.specs.First.{Rule, _when_, firstOf}
 use Rattle.lent.specs.Buffer.{unlessRefused}
+use Rattle.table.specs.Table.{printedOf, mostText}
 use Rattle.table.specs.declared.Answer.{Answer}
 use Rattle.table.specs.declared.Answer.the-variants.{Done, ShortBuffer}
-use Rattle.table.specs.Table.{printedOf, mostText}
 
 abbrev pub numberOf : Answer → ℕ
 numberOf (Done size) = 0

@@ -1,12 +1,12 @@
 -- "Bench record": what the bench program prints.
 use Prim.Native.Nat.{ℕ, _+_, _*_}
-use mathlib.Core.Bool.{cond}
-use mathlib.Core.List.{List, [], _∷_, _++_}
 use lib.Dec.{ltb, eqb}
 use lib.ListN.{length}
-use Rattle.event.specs.declared.Event.{Event}
-use Rattle.controller.specs.declared.Controller.{Controller}
+use mathlib.Core.Bool.{cond}
+use mathlib.Core.List.{List, [], _∷_, _++_}
 use Rattle.bus.specs.Events.{toldBy}
+use Rattle.controller.specs.declared.Controller.{Controller}
+use Rattle.event.specs.declared.Event.{Event}
 use Rattle.record.specs.Event.{rawOf}
 use Rattle.record.specs.Record.{mostEvents, mostBytes, eventsOf, checkOf}
 use Rattle.run.specs.Run.{startedFrom}

@@ -1,13 +1,13 @@
 -- What is proved of the text beside the promises.
 use Prim.Native.Nat.{ℕ, _≤_}
+use lib.ListN.{length, take}
 use mathlib.Core.List.{List, [], _∷_}
 use mathlib.Core.Path.{_≡_}
-use lib.ListN.{length, take}
 use Rattle.condition.specs.First.{Exactly}
 use Rattle.text.specs.Text.{textOf}
-use Rattle.table.specs.declared.Answer.{Answer}
-use Rattle.table.specs.Table.{printedOf}
 use Rattle.table.specs.Answers.{numberOf, valueOf, refusals, Tabling}
+use Rattle.table.specs.Table.{printedOf}
+use Rattle.table.specs.declared.Answer.{Answer}
 
 -- ---- any two outcomes that a promise allows are equal
 

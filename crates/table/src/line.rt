@@ -2,9 +2,9 @@
 ghost use Prim.Native.Nat.{_+_, _≤_};
 ghost use lib.ListN.{length};
 ghost use Rattle.controller.specs.Answers.{saidOf};
+ghost use Rattle.lent.specs.Put.{Puts};
 ghost use Rattle.record.specs.Event.{rawOf};
 ghost use Rattle.record.specs.Record.{mostEvents};
-ghost use Rattle.lent.specs.Put.{Puts};
 ghost use Rattle.table.specs.Contracts.{Narrow};
 ghost use Rattle.table.specs.Table.{spaced, lineOf, lineBytes};
 use controller::answer::Answer;

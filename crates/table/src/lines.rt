@@ -1,9 +1,9 @@
 // A line for each event of a record.
-ghost use mathlib.Core.Path.{_≡_};
 ghost use Prim.Native.Nat.{_+_, _*_, _≤_};
 ghost use lib.ListN.{length};
-ghost use Rattle.record.specs.Record.{mostEvents, mostBytes, eventsOf, checkOf};
+ghost use mathlib.Core.Path.{_≡_};
 ghost use Rattle.lent.specs.Put.{Puts};
+ghost use Rattle.record.specs.Record.{mostEvents, mostBytes, eventsOf, checkOf};
 ghost use Rattle.run.specs.Run.{startedFrom};
 ghost use Rattle.table.specs.Table.{eventLines, lineBytes};
 use super::line::put_event;

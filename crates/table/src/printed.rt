@@ -1,9 +1,9 @@
 // The whole text that the bench program prints.
-ghost use mathlib.Core.Path.{_≡_};
 ghost use Prim.Native.Nat.{_≤_};
 ghost use lib.ListN.{length};
-ghost use Rattle.record.specs.Record.{mostBytes, checkOf};
+ghost use mathlib.Core.Path.{_≡_};
 ghost use Rattle.lent.specs.Put.{Puts};
+ghost use Rattle.record.specs.Record.{mostBytes, checkOf};
 ghost use Rattle.table.specs.Table.{tableOf, printedOf, mostText};
 use super::lines::put_lines;
 use text::put_refused;

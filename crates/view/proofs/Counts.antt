@@ -1,18 +1,18 @@
 -- Laws of counts: digits one by one, and what a word with other characters or too large a number comes to.
-use Prim.Native.Nat.{ℕ, _+_, _*_, _-_, _<_, _≤_}
 use Prim.Native.Char.{code}
-use mathlib.Core.Path.{_≡_, refl, _∙_}
-use mathlib.Core.Bool.{Bool, true, false, cond, _&&_}
-use mathlib.Core.List.{List, [], _∷_}
-use native.Mathlib.Numerals.{add-one}
-use native.Mathlib.Omega.{arith}
+use Prim.Native.Nat.{ℕ, _+_, _*_, _-_, _<_, _≤_}
+use borrow.Author.Tests.{le-leb, lt-leb}
 use lib.Dec.{leb}
 use lib.ListN.{length, drop, getD}
 use lib.Seq.{drop-cons, drop-length}
-use borrow.Author.Tests.{le-leb, lt-leb}
+use mathlib.Core.Bool.{Bool, true, false, cond, _&&_}
+use mathlib.Core.List.{List, [], _∷_}
+use mathlib.Core.Path.{_≡_, refl, _∙_}
+use native.Mathlib.Numerals.{add-one}
+use native.Mathlib.Omega.{arith}
 use Rattle.text.specs.Text.{meantBy}
-use Rattle.view.specs.declared.count.Count.the-variants.{Digits, NoCount}
 use Rattle.view.specs.Words.{allDigits, isEmpty, countIn}
+use Rattle.view.specs.declared.count.Count.the-variants.{Digits, NoCount}
 use Rattle.view.proofs.Letters.{and-false}
 
 meant-grows : (n : ℕ) (word : List ℕ) → n ≤ meantBy n word

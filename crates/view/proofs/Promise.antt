@@ -1,19 +1,19 @@
 -- Laws of the promise: what each answer leaves.
 use Prim.Native.Nat.{ℕ, _<_, _≤_}
-use mathlib.Core.Path.{_≡_, sym}
-use mathlib.Core.List.{List}
-use lib.ListN.{length}
 use borrow.Author.Tests.{lt-ltb, le-ltb}
+use lib.ListN.{length}
+use mathlib.Core.List.{List}
+use mathlib.Core.Path.{_≡_, sym}
 use Rattle.condition.specs.First.{firstOf}
-use Rattle.lent.specs.Put.{Puts}
-use Rattle.lent.proofs.Left.{refused-keeps}
-use Rattle.lent.proofs.Front.{front-written}
 use Rattle.dots.specs.declared.phase.Phase.{Phase}
-use Rattle.drawing.specs.declared.form.Form.{Form}
 use Rattle.drawing.specs.Drawing.{mostDrawn}
-use Rattle.view.specs.declared.Answer.the-variants.{Done, ShortBuffer}
-use Rattle.view.specs.View.{viewOf}
+use Rattle.drawing.specs.declared.form.Form.{Form}
+use Rattle.lent.proofs.Front.{front-written}
+use Rattle.lent.proofs.Left.{refused-keeps}
+use Rattle.lent.specs.Put.{Puts}
 use Rattle.view.specs.Answers.{refusals, answerFor, valueFor, Viewed}
+use Rattle.view.specs.View.{viewOf}
+use Rattle.view.specs.declared.Answer.the-variants.{Done, ShortBuffer}
 
 module _ (digits : ℕ) (phase : Phase) (form : Form) (rom bytes out : List ℕ) where
   pub refused : length out < mostDrawn → Viewed digits phase form rom bytes out ShortBuffer out

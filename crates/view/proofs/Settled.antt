@@ -1,13 +1,13 @@
 -- The promises settle what the words ask for, the answer, and every byte of the buffer.
 use Prim.Native.Nat.{ℕ}
-use mathlib.Core.Path.{_≡_, refl}
-use mathlib.Core.Bool.{cond}
 use lib.Dec.{eqb}
+use mathlib.Core.Bool.{cond}
+use mathlib.Core.Path.{_≡_, refl}
 use Rattle.condition.proofs.Settled.{settled, settled-by-both}
-use Rattle.view.specs.declared.Answer.{Answer}
-use Rattle.view.specs.declared.Answer.the-variants.{Done, ShortBuffer}
 use Rattle.view.specs.Answers.{numberOf, valueOf}
 use Rattle.view.specs.Theorems.{WordsSettled, ValueSettled, ViewSettled}
+use Rattle.view.specs.declared.Answer.{Answer}
+use Rattle.view.specs.declared.Answer.the-variants.{Done, ShortBuffer}
 
 pub words-settled : WordsSettled
 words-settled words digits phase form asked other p q = settled p q

@@ -1,31 +1,31 @@
 -- Laws of a picture that is shown: when it is refused, and that its drawing has room.
 use Prim.Native.Nat.{ℕ, _≤_}
-use mathlib.Core.Path.{_≡_, refl, ap, sym, _∙_}
-use mathlib.Core.Bool.{Bool, true, false, cond, not}
-use mathlib.Core.List.{List}
-use native.Mathlib.Omega.{arith}
+use borrow.Author.Tests.{le-ltb}
 use lib.Dec.{eqb}
 use lib.ListN.{length, take}
-use borrow.Author.Tests.{le-ltb}
+use mathlib.Core.Bool.{Bool, true, false, cond, not}
+use mathlib.Core.List.{List}
+use mathlib.Core.Path.{_≡_, refl, ap, sym, _∙_}
+use native.Mathlib.Omega.{arith}
 use Rattle.condition.specs.First.{firstOf}
-use Rattle.lent.specs.Put.{Puts}
-use Rattle.lent.proofs.Left.{front-and-rest}
-use Rattle.lent.proofs.Front.{puts-front}
-use Rattle.controller.specs.declared.Controller.{Controller}
 use Rattle.controller.specs.Part.{inRange}
-use Rattle.size.specs.Size.{mostBytes, bytesOf, hasDigits}
-use Rattle.size.proofs.Sizes.{picture-small}
-use Rattle.dots.specs.declared.phase.Phase.{Phase}
+use Rattle.controller.specs.declared.Controller.{Controller}
 use Rattle.dots.specs.Dots.{imageSize}
-use Rattle.picture.specs.Picture.{pictureOf}
-use Rattle.picture.specs.Answers.{refusals, answerFor, bufferFor}
-use Rattle.picture.proofs.Lines.{length-picture}
-use Rattle.text.specs.Text.{refusedOf}
+use Rattle.dots.specs.declared.phase.Phase.{Phase}
+use Rattle.drawing.proofs.Theorems.{at-most}
+use Rattle.drawing.specs.Answers.{valueOf, valueFor, Drawing, answerFor as drawingAnswer, refusals as drawingRefusals}
+use Rattle.drawing.specs.Drawing.{drawingOf, mostDrawn}
 use Rattle.drawing.specs.declared.Answer.{Answer}
 use Rattle.drawing.specs.declared.form.Form.{Form}
-use Rattle.drawing.specs.Drawing.{drawingOf, mostDrawn}
-use Rattle.drawing.specs.Answers.{valueOf, valueFor, Drawing, answerFor as drawingAnswer, refusals as drawingRefusals}
-use Rattle.drawing.proofs.Theorems.{at-most}
+use Rattle.lent.proofs.Front.{puts-front}
+use Rattle.lent.proofs.Left.{front-and-rest}
+use Rattle.lent.specs.Put.{Puts}
+use Rattle.picture.proofs.Lines.{length-picture}
+use Rattle.picture.specs.Answers.{refusals, answerFor, bufferFor}
+use Rattle.picture.specs.Picture.{pictureOf}
+use Rattle.size.proofs.Sizes.{picture-small}
+use Rattle.size.specs.Size.{mostBytes, bytesOf, hasDigits}
+use Rattle.text.specs.Text.{refusedOf}
 use Rattle.view.specs.View.{shownOf}
 
 -- ---- what the picture's answer tells, where its buffer has room for the largest

@@ -1,19 +1,19 @@
 -- The theorems about a view: when it is refused, and where what it has written stands.
 use Prim.Native.Nat.{ℕ, _≤_}
-use mathlib.Core.Path.{_≡_, refl, ap, sym, _∙_}
-use mathlib.Core.List.{List}
-use native.Mathlib.Omega.{arith}
 use lib.ListN.{length, take, length-take}
-use Rattle.condition.specs.First.{absent, distinct}
+use mathlib.Core.List.{List}
+use mathlib.Core.Path.{_≡_, refl, ap, sym, _∙_}
+use native.Mathlib.Omega.{arith}
 use Rattle.condition.proofs.First.{first-given-exactly}
-use Rattle.lent.proofs.Left.{front-and-rest}
+use Rattle.condition.specs.First.{absent, distinct}
 use Rattle.dots.specs.declared.phase.Phase.{Phase}
 use Rattle.drawing.specs.declared.form.Form.{Form}
-use Rattle.view.specs.declared.Answer.{Answer}
-use Rattle.view.specs.declared.Answer.the-variants.{Done, ShortBuffer}
-use Rattle.view.specs.View.{viewOf}
+use Rattle.lent.proofs.Left.{front-and-rest}
 use Rattle.view.specs.Answers.{numberOf, valueOf, refusals, answerFor, valueFor, Viewed}
 use Rattle.view.specs.Theorems.{ViewGivenExactly, AtTheFront}
+use Rattle.view.specs.View.{viewOf}
+use Rattle.view.specs.declared.Answer.{Answer}
+use Rattle.view.specs.declared.Answer.the-variants.{Done, ShortBuffer}
 
 pub view-given-exactly : ViewGivenExactly
 unfolding refusals answerFor absent distinct

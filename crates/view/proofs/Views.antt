@@ -1,20 +1,20 @@
 -- Laws of a view: `too long`, a refused record, or the picture of a part in range.
 use Prim.Native.Nat.{ℕ, _<_, _≤_}
-use mathlib.Core.Path.{_≡_, _∙_}
+use borrow.Author.Tests.{lt-ltb, le-ltb, eq-eqb, ne-eqb}
+use lib.ListN.{length}
 use mathlib.Core.Bool.{true}
 use mathlib.Core.List.{List}
-use lib.ListN.{length}
-use borrow.Author.Tests.{lt-ltb, le-ltb, eq-eqb, ne-eqb}
+use mathlib.Core.Path.{_≡_, _∙_}
 use Rattle.condition.proofs.Tests.{is-true}
-use Rattle.controller.specs.declared.Controller.{Controller}
 use Rattle.controller.specs.Part.{inRange}
+use Rattle.controller.specs.declared.Controller.{Controller}
 use Rattle.dots.specs.declared.phase.Phase.{Phase}
-use Rattle.record.specs.Record.{mostBytes, eventsOf, checkOf}
-use Rattle.run.specs.declared.Ran.{Ran}
-use Rattle.run.specs.Run.{ranOf, Running}
-use Rattle.run.proofs.InRange.{ran-in-range}
-use Rattle.text.specs.Text.{textOf, refusedOf}
 use Rattle.drawing.specs.declared.form.Form.{Form}
+use Rattle.record.specs.Record.{mostBytes, eventsOf, checkOf}
+use Rattle.run.proofs.InRange.{ran-in-range}
+use Rattle.run.specs.Run.{ranOf, Running}
+use Rattle.run.specs.declared.Ran.{Ran}
+use Rattle.text.specs.Text.{textOf, refusedOf}
 use Rattle.view.specs.View.{shownOf, viewOf}
 
 module _ (digits : ℕ) (phase : Phase) (form : Form) (rom bytes : List ℕ) where

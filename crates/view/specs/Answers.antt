@@ -1,18 +1,18 @@
 -- "Refusal numbers": the number and value for each answer to a view, when it is given, and what a call leaves.
 use Prim.Native.Nat.{ℕ}
-use mathlib.Core.Path.{_≡_}
-use mathlib.Core.Bool.{cond}
-use mathlib.Core.List.{List, [], _∷_}
 use lib.Dec.{ltb, eqb}
 use lib.ListN.{length}
+use mathlib.Core.Bool.{cond}
+use mathlib.Core.List.{List, [], _∷_}
+use mathlib.Core.Path.{_≡_}
 use Rattle.condition.specs.First.{Rule, _when_, firstOf}
-use Rattle.lent.specs.Buffer.{unlessRefused}
 use Rattle.dots.specs.declared.phase.Phase.{Phase}
-use Rattle.drawing.specs.declared.form.Form.{Form}
 use Rattle.drawing.specs.Drawing.{mostDrawn}
+use Rattle.drawing.specs.declared.form.Form.{Form}
+use Rattle.lent.specs.Buffer.{unlessRefused}
+use Rattle.view.specs.View.{viewOf}
 use Rattle.view.specs.declared.Answer.{Answer}
 use Rattle.view.specs.declared.Answer.the-variants.{Done, ShortBuffer}
-use Rattle.view.specs.View.{viewOf}
 
 abbrev pub numberOf : Answer → ℕ
 numberOf (Done n) = 0

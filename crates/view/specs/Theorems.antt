@@ -1,16 +1,16 @@
 -- Theorems about the words and a view; each is proved in proofs/.
 use Prim.Native.Nat.{ℕ, _≤_}
-use mathlib.Core.Path.{_≡_}
-use mathlib.Core.List.{List}
 use lib.ListN.{length, take}
+use mathlib.Core.List.{List}
+use mathlib.Core.Path.{_≡_}
 use Rattle.condition.specs.First.{Exactly}
 use Rattle.dots.specs.declared.phase.Phase.{Phase}
 use Rattle.drawing.specs.declared.form.Form.{Form}
-use Rattle.view.specs.declared.words.Asked.{Asked}
-use Rattle.view.specs.declared.Answer.{Answer}
-use Rattle.view.specs.Words.{askedBy}
-use Rattle.view.specs.View.{viewOf}
 use Rattle.view.specs.Answers.{numberOf, valueOf, refusals, Viewed}
+use Rattle.view.specs.View.{viewOf}
+use Rattle.view.specs.Words.{askedBy}
+use Rattle.view.specs.declared.Answer.{Answer}
+use Rattle.view.specs.declared.words.Asked.{Asked}
 
 -- two outcomes that the promise of the words allows are equal
 abbrev pub WordsSettled : Type 0

@@ -1,19 +1,19 @@
 -- What `screen` prints for a count of digits, a phase, a form, a ROM file and a record.
 use Prim.Native.Nat.{ℕ}
-use mathlib.Core.Bool.{cond}
-use mathlib.Core.List.{List}
 use lib.Dec.{ltb, eqb}
 use lib.ListN.{length}
+use mathlib.Core.Bool.{cond}
+use mathlib.Core.List.{List}
 use Rattle.controller.specs.declared.Controller.{Controller}
-use Rattle.size.specs.Size.{hasDigits}
-use Rattle.dots.specs.declared.phase.Phase.{Phase}
 use Rattle.dots.specs.Dots.{imageSize}
+use Rattle.dots.specs.declared.phase.Phase.{Phase}
+use Rattle.drawing.specs.Drawing.{drawingOf}
+use Rattle.drawing.specs.declared.form.Form.{Form}
 use Rattle.picture.specs.Picture.{pictureOf}
 use Rattle.record.specs.Record.{mostBytes, eventsOf, checkOf}
 use Rattle.run.specs.Run.{ranOf}
+use Rattle.size.specs.Size.{hasDigits}
 use Rattle.text.specs.Text.{textOf, refusedOf}
-use Rattle.drawing.specs.declared.form.Form.{Form}
-use Rattle.drawing.specs.Drawing.{drawingOf}
 
 -- the picture of a part: 4 for the count of digits, then 5 for the ROM file
 unfoldable pub shownOf : Controller → (digits : ℕ) → Phase → Form → (rom : List ℕ) → List ℕ

@@ -1,20 +1,20 @@
 -- `screen DIGITS ROM plain|dark [pbm]`: what the words mean. The file's name is not looked at.
-use Prim.Native.Nat.{ℕ}
 use Prim.Native.Char.{code}
+use Prim.Native.Nat.{ℕ}
+use lib.Dec.{leb, eqb}
 use mathlib.Core.Bool.{Bool, true, false, cond, _&&_}
 use mathlib.Core.List.{List, [], _∷_}
-use lib.Dec.{leb, eqb}
 use Rattle.dots.specs.declared.phase.Phase.the-variants.{Plain, Dark}
-use Rattle.text.specs.Text.{textOf, meantBy}
 use Rattle.drawing.specs.declared.form.Form.the-variants.{Text, Image}
-use Rattle.view.specs.declared.words.Asked.{Asked}
-use Rattle.view.specs.declared.words.Asked.the-variants.{View, Usage}
+use Rattle.text.specs.Text.{textOf, meantBy}
 use Rattle.view.specs.declared.count.Count.{Count}
 use Rattle.view.specs.declared.count.Count.the-variants.{Digits, NoCount}
-use Rattle.view.specs.declared.word.Phased.{Phased}
-use Rattle.view.specs.declared.word.Phased.the-variants.{InPhase, NoPhase}
 use Rattle.view.specs.declared.word.Formed.{Formed}
 use Rattle.view.specs.declared.word.Formed.the-variants.{InForm, NoForm}
+use Rattle.view.specs.declared.word.Phased.{Phased}
+use Rattle.view.specs.declared.word.Phased.the-variants.{InPhase, NoPhase}
+use Rattle.view.specs.declared.words.Asked.{Asked}
+use Rattle.view.specs.declared.words.Asked.the-variants.{View, Usage}
 
 -- ---- DIGITS: decimal, 0 to 255, plain digits only
 

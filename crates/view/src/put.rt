@@ -1,11 +1,11 @@
 // What is printed, put at the front of a lent buffer that has room for the longest drawing.
 ghost use Prim.Native.Nat.{_≤_};
-ghost use mathlib.Core.Path.{_≡_};
-ghost use mathlib.Core.Bool.{true};
 ghost use lib.ListN.{length};
-ghost use Rattle.lent.specs.Put.{Puts};
+ghost use mathlib.Core.Bool.{true};
+ghost use mathlib.Core.Path.{_≡_};
 ghost use Rattle.controller.specs.Part.{inRange};
 ghost use Rattle.drawing.specs.Drawing.{mostDrawn};
+ghost use Rattle.lent.specs.Put.{Puts};
 ghost use Rattle.view.specs.View.{shownOf, viewOf};
 use controller::Controller;
 use dots::Phase;

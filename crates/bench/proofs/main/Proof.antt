@@ -1,7 +1,7 @@
 -- The text lies within its buffer, by the table's theorem.
-use mathlib.Core.Path.{sym}
-use lib.Seq.{length-take-le}
 use borrow.Author.Needs.{needs}
+use lib.Seq.{length-take-le}
+use mathlib.Core.Path.{sym}
 use Rattle.table.proofs.Theorems.{at-the-front}
 use Rattle.bench.proofs.main.Statement.{statement}
 use Rattle.bench.proofs.main.Tie as tie

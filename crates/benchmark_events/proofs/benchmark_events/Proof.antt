@@ -1,16 +1,16 @@
 -- The invariant: the registers are in range, and the sum so far, and over the events from a place on, is the whole one.
 use Prim.Native.Nat.{_-_}
-use mathlib.Core.Path.{_≡_, sym, ap, _∙_}
-use mathlib.Core.Bool.{true}
-use native.Mathlib.Omega.{arith}
 use borrow.Author.Needs.{needs}
 use lib.ListN.{length}
+use mathlib.Core.Bool.{true}
+use mathlib.Core.Path.{_≡_, sym, ap, _∙_}
+use native.Mathlib.Omega.{arith}
 use Rattle.condition.proofs.Tests.{is-true}
-use Rattle.controller.specs.declared.Controller.{Controller}
 use Rattle.controller.specs.Part.{inRange, with}
+use Rattle.controller.specs.declared.Controller.{Controller}
 use Rattle.record.proofs.InTurn.{found-fits, found-first, none-left, none-behind}
-use Rattle.run.specs.Run.{startedFrom}
 use Rattle.run.proofs.InRange.{started-in-range}
+use Rattle.run.specs.Run.{startedFrom}
 use Rattle.benchmark_events.specs.Sum.{sumFrom}
 use Rattle.benchmark_events.proofs.Sums.{sum-turn, sum-end}
 use Rattle.benchmark_events.proofs.benchmark_events.Statement.{statement}

@@ -1,8 +1,8 @@
 -- The loop's invariant: buffer and number stay as the first picture left them.
-use mathlib.Core.Path.{_≡_, refl, sym, _∙_}
-use native.Mathlib.Omega.{arith}
 use borrow.Author.Needs.{needs}
 use lib.ListN.{length}
+use mathlib.Core.Path.{_≡_, refl, sym, _∙_}
+use native.Mathlib.Omega.{arith}
 use Rattle.benchmark_picture.proofs.Again.{drawn-again, answered-again}
 use Rattle.benchmark_picture.proofs.benchmark_picture.Statement.{statement}
 use Rattle.benchmark_picture.proofs.benchmark_picture.Tie as tie

@@ -1,7 +1,7 @@
 -- What is printed is at the front of the text, by the view's theorem.
-use mathlib.Core.Path.{sym}
-use lib.Seq.{length-take-le}
 use borrow.Author.Needs.{needs}
+use lib.Seq.{length-take-le}
+use mathlib.Core.Path.{sym}
 use Rattle.view.proofs.Theorems.{at-the-front}
 use Rattle.screen.proofs.show.Statement.{statement}
 use Rattle.screen.proofs.show.Tie as tie

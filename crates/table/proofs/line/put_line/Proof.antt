@@ -1,7 +1,7 @@
 -- The four columns are put, then the value read; a line has room for both.
 use borrow.Author.Needs.{needs}
-use native.Mathlib.Omega.{arith}
 use denote.Ref.{now}
+use native.Mathlib.Omega.{arith}
 use Rattle.table.proofs.Columns.{columns-room, read-room, line-put}
 use Rattle.table.proofs.line.put_line.Statement.{statement}
 use Rattle.table.proofs.line.put_line.Tie as tie

@@ -1,10 +1,10 @@
 -- The invariant: the numbers from i on are still to be put.
 use Prim.Native.Nat.{_-_, _≤_}
+use lib.ListN.{length, drop}
 use mathlib.Core.Path.{_≡_, refl}
 use native.Mathlib.Omega.{arith}
-use lib.ListN.{length, drop}
-use Rattle.table.specs.Table.{spaced}
 use Rattle.lent.proofs.Placed.{Awaits, awaits-all}
+use Rattle.table.specs.Table.{spaced}
 use Rattle.table.proofs.Columns.{spaced-room, spaced-turn, spaced-end}
 use Rattle.table.proofs.line.put_spaced.Statement.{statement}
 use Rattle.table.proofs.line.put_spaced.Tie as tie

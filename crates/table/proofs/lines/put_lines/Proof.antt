@@ -1,18 +1,18 @@
 -- The invariant: the registers are in range, each line so far had its room, and the lines of the events from a place on are still to be put.
 use Prim.Native.Nat.{_+_, _*_, _-_, _≤_}
-use mathlib.Core.Path.{_≡_, refl, ap, _∙_}
-use mathlib.Core.Bool.{true}
-use native.Mathlib.Omega.{arith}
 use borrow.Author.Needs.{needs}
 use lib.ListN.{length, drop}
+use mathlib.Core.Bool.{true}
+use mathlib.Core.Path.{_≡_, refl, ap, _∙_}
+use native.Mathlib.Omega.{arith}
 use Rattle.condition.proofs.Tests.{is-true}
-use Rattle.controller.specs.declared.Controller.{Controller}
 use Rattle.controller.specs.Part.{inRange, with}
-use Rattle.record.specs.Record.{mostEvents, mostBytes, frontEvents, eventsOf}
-use Rattle.record.proofs.InTurn.{found-first, none-left, none-behind}
-use Rattle.run.specs.Run.{startedFrom}
-use Rattle.run.proofs.InRange.{started-in-range}
+use Rattle.controller.specs.declared.Controller.{Controller}
 use Rattle.lent.proofs.Placed.{Awaits}
+use Rattle.record.proofs.InTurn.{found-first, none-left, none-behind}
+use Rattle.record.specs.Record.{mostEvents, mostBytes, frontEvents, eventsOf}
+use Rattle.run.proofs.InRange.{started-in-range}
+use Rattle.run.specs.Run.{startedFrom}
 use Rattle.table.specs.Table.{eventLines, lineBytes}
 use Rattle.table.proofs.Turns.{lines-start, lines-turn, lines-end}
 use Rattle.table.proofs.lines.put_lines.Statement.{statement}

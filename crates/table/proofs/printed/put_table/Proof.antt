@@ -1,8 +1,8 @@
 -- The heading is put, then the lines behind it.
 use borrow.Author.Needs.{needs}
 use native.Mathlib.Omega.{arith}
-use Rattle.table.specs.Table.{tableOf}
 use Rattle.lent.proofs.Placed.{puts-then}
+use Rattle.table.specs.Table.{tableOf}
 use Rattle.table.proofs.printed.put_table.Statement.{statement}
 use Rattle.table.proofs.printed.put_table.Tie as tie
 

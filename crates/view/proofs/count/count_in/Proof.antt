@@ -1,9 +1,9 @@
 -- The loop reads a digit a turn; a character that is none, or a count above 255, ends it.
 use Prim.Native.Nat.{_-_}
+use borrow.Author.Needs.{needs}
+use lib.ListN.{length}
 use mathlib.Core.Path.{refl}
 use native.Mathlib.Nat.{le-antisymm}
-use lib.ListN.{length}
-use borrow.Author.Needs.{needs}
 use Rattle.view.proofs.Counts.{Counted, empty-word, below-digits, above-digits, grown-large, counted-next, counted-all}
 use Rattle.view.proofs.count.count_in.Statement.{statement}
 use Rattle.view.proofs.count.count_in.Tie as tie

@@ -1,7 +1,7 @@
 -- Each return is one way of the definition: too long, a refused record, or the part that it leaves.
-use mathlib.Core.Path.{_≡_, sym, _∙_}
-use denote.Ref.{now}
 use borrow.Author.Needs.{needs}
+use denote.Ref.{now}
+use mathlib.Core.Path.{_≡_, sym, _∙_}
 use Rattle.record.specs.Record.{eventsOf, checkOf}
 use Rattle.run.specs.Run.{ranOf}
 use Rattle.view.proofs.Views.{view-long, view-refused, view-shown, ran-told, told-in-range}

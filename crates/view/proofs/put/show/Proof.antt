@@ -1,16 +1,16 @@
 -- The picture's number decides; where it is 0 its dots are there, and their drawing has room.
 use Prim.Native.Nat.{ℕ}
-use mathlib.Core.Path.{_≡_, ap, sym, _∙_}
-use mathlib.Core.List.{List}
-use native.Mathlib.Omega.{arith}
-use lib.ListN.{length, take, replicate, length-take, length-replicate}
-use denote.Ref.{now}
 use borrow.Author.Needs.{needs}
-use Rattle.size.specs.Size.{mostBytes}
-use Rattle.picture.specs.Picture.{pictureOf}
-use Rattle.picture.specs.Answers.{answerFor}
-use Rattle.picture.proofs.Lines.{length-picture}
+use denote.Ref.{now}
+use lib.ListN.{length, take, replicate, length-take, length-replicate}
+use mathlib.Core.List.{List}
+use mathlib.Core.Path.{_≡_, ap, sym, _∙_}
+use native.Mathlib.Omega.{arith}
 use Rattle.drawing.specs.declared.form.Form.the-variants.{Text}
+use Rattle.picture.proofs.Lines.{length-picture}
+use Rattle.picture.specs.Answers.{answerFor}
+use Rattle.picture.specs.Picture.{pictureOf}
+use Rattle.size.specs.Size.{mostBytes}
 use Rattle.view.proofs.Shown.{refusal-puts, dots-there, drawing-puts}
 use Rattle.view.proofs.put.show.Statement.{statement}
 use Rattle.view.proofs.put.show.Tie as tie

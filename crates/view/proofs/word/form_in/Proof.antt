@@ -1,7 +1,7 @@
 -- The tests are those of the definition.
-use mathlib.Core.Path.{sym}
 use borrow.Author.Needs.{needs}
 use borrow.Author.Tests.{eq-eqb, ne-eqb}
+use mathlib.Core.Path.{sym}
 use Rattle.view.specs.Words.{formIn}
 use Rattle.view.proofs.word.form_in.Statement.{statement}
 use Rattle.view.proofs.word.form_in.Tie as tie

@@ -1,9 +1,9 @@
 -- The loop compares a letter a turn; the letters before it are the same.
 use Prim.Native.Nat.{_-_, _≤_}
+use borrow.Author.Needs.{needs}
+use lib.ListN.{length, drop}
 use mathlib.Core.Path.{_≡_, refl, sym, _∙_}
 use native.Mathlib.Nat.{le-antisymm}
-use lib.ListN.{length, drop}
-use borrow.Author.Needs.{needs}
 use Rattle.view.specs.Words.{isWord}
 use Rattle.view.proofs.Letters.{other-length, letters-differ, letters-same, no-more}
 use Rattle.view.proofs.word.is_word.Statement.{statement}

@@ -1,6 +1,6 @@
 -- The tests are those of the definition.
-use mathlib.Core.Path.{sym}
 use borrow.Author.Needs.{needs}
+use mathlib.Core.Path.{sym}
 use Rattle.view.specs.Words.{phaseIn}
 use Rattle.view.proofs.word.phase_in.Statement.{statement}
 use Rattle.view.proofs.word.phase_in.Tie as tie
