@@ -3,8 +3,8 @@ use dots::Phase;
 use drawing::Form;
 use libc::STDIN_FILENO;
 use libc::STDOUT_FILENO;
-use view::Answer;
 use view::Asked;
+use view::view;
 
 // A byte more than the longest record and than a ROM image, so that a longer one is seen.
 const INPUT: usize = record::MOST_BYTES + 1;
@@ -34,12 +34,8 @@ fn show(digits: u8, phase: Phase, form: Form, rom: &[u8]) {
     let mut input = [0u8; INPUT];
     let got = io::read_full(STDIN_FILENO, &mut input);
     let mut text = [0u8; drawing::MOST_BYTES];
-    match view::view(digits, phase, form, rom, &input[..got], &mut text) {
-        Answer::Done(size) => {
-            io::write_all(STDOUT_FILENO, &text[..size]);
-        }
-        Answer::ShortBuffer => {}
-    }
+    let size = view(digits, phase, form, rom, &input[..got], &mut text).value();
+    io::write_all(STDOUT_FILENO, &text[..size]);
 }
 
 // A read that fails counts as an end, so one more tells the two apart.

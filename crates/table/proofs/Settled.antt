@@ -5,12 +5,9 @@ use mathlib.Core.Bool.{cond}
 use mathlib.Core.Path.{_≡_, refl}
 use Rattle.condition.proofs.Settled.{settled, settled-by-both}
 use Rattle.table.specs.Answers.{numberOf, valueOf}
-use Rattle.table.specs.Theorems.{NumberSettled, ValueSettled, TableSettled}
+use Rattle.table.specs.Theorems.{ValueSettled, TableSettled}
 use Rattle.table.specs.declared.Answer.{Answer}
 use Rattle.table.specs.declared.Answer.the-variants.{Done, ShortBuffer}
-
-pub number-settled : NumberSettled
-number-settled answer r r′ e e′ = settled e e′
 
 pub value-settled : ValueSettled
 value-settled answer r r′ e e′ = settled e e′

@@ -11,9 +11,6 @@ use Rattle.table.specs.declared.Answer.{Answer}
 
 -- ---- any two outcomes that a promise allows are equal
 
-abbrev pub NumberSettled : Type 0
-NumberSettled = (answer : Answer) (r r′ : ℕ) → r ≡ numberOf answer → r′ ≡ numberOf answer → r ≡ r′
-
 abbrev pub ValueSettled : Type 0
 ValueSettled = (answer : Answer) (r r′ : ℕ) → r ≡ valueOf answer → r′ ≡ valueOf answer → r ≡ r′
 

@@ -1,6 +1,6 @@
 // The bench program's text for a record, as bytes in a lent buffer.
 ghost use mathlib.Core.Path.{_≡_};
-ghost use Rattle.table.specs.Answers.{numberOf, valueOf, Tabling};
+ghost use Rattle.table.specs.Answers.{valueOf, Tabling};
 
 mod line;
 mod lines;
@@ -18,16 +18,6 @@ pub enum Answer {
 }
 
 impl Answer {
-    // This paper's number.
-    pub fn number(self) -> u8
-        ensures { λ r. ⌜ r ≡ numberOf self ⌝ }
-    {
-        match self {
-            Answer::Done(_) => 0,
-            Answer::ShortBuffer => 6,
-        }
-    }
-
     // How many bytes the text has; 0 beside a refusal.
     pub fn value(self) -> usize
         ensures { λ r. ⌜ r ≡ valueOf self ⌝ }

@@ -5,12 +5,15 @@ use mathlib.Core.Bool.{cond}
 use mathlib.Core.Path.{_≡_, refl}
 use Rattle.condition.proofs.Settled.{settled, settled-by-both}
 use Rattle.view.specs.Answers.{numberOf, valueOf}
-use Rattle.view.specs.Theorems.{WordsSettled, ViewSettled}
+use Rattle.view.specs.Theorems.{WordsSettled, ValueSettled, ViewSettled}
 use Rattle.view.specs.declared.Answer.{Answer}
 use Rattle.view.specs.declared.Answer.the-variants.{Done, ShortBuffer}
 
 pub words-settled : WordsSettled
 words-settled words digits phase form asked other p q = settled p q
+
+pub value-settled : ValueSettled
+value-settled answer r other p q = settled p q
 
 -- an answer is had back from its number and value
 answerOf : (number value : ℕ) → Answer

@@ -6,11 +6,10 @@ use mathlib.Core.Path.{_≡_}
 use Rattle.condition.specs.First.{Exactly}
 use Rattle.dots.specs.declared.phase.Phase.{Phase}
 use Rattle.drawing.specs.declared.form.Form.{Form}
-use Rattle.view.specs.Answers.{numberOf, refusals, Viewed}
+use Rattle.view.specs.Answers.{numberOf, valueOf, refusals, Viewed}
 use Rattle.view.specs.View.{viewOf}
 use Rattle.view.specs.Words.{askedBy}
 use Rattle.view.specs.declared.Answer.{Answer}
-use Rattle.view.specs.declared.Answer.the-variants.{Done}
 use Rattle.view.specs.declared.words.Asked.{Asked}
 
 -- two outcomes that the promise of the words allows are equal
@@ -20,6 +19,9 @@ WordsSettled =
     → asked ≡ askedBy words digits phase form
     → other ≡ askedBy words digits phase form
     → asked ≡ other
+
+abbrev pub ValueSettled : Type 0
+ValueSettled = (answer : Answer) (r other : ℕ) → r ≡ valueOf answer → other ≡ valueOf answer → r ≡ other
 
 -- two outcomes that the promise of a view allows are equal, answer and buffer
 abbrev pub ViewSettled : Type 0
@@ -36,9 +38,9 @@ ViewGivenExactly =
     → Viewed digits phase form rom bytes out answer left
     → Exactly (numberOf answer) (refusals out) 0
 
--- what a call that is done has written stands at the front of the buffer
+-- what is written is in the buffer, at its front
 abbrev pub AtTheFront : Type 0
 AtTheFront =
-    (digits : ℕ) (phase : Phase) (form : Form) (rom bytes out : List ℕ) (size : ℕ) (left : List ℕ)
-    → Viewed digits phase form rom bytes out (Done size) left
-    → (size ≤ length left) × (take size left ≡ viewOf digits phase form rom bytes)
+    (digits : ℕ) (phase : Phase) (form : Form) (rom bytes out : List ℕ) (answer : Answer) (left : List ℕ)
+    → Viewed digits phase form rom bytes out answer left
+    → (valueOf answer ≤ length left) × (numberOf answer ≡ 0 → take (valueOf answer) left ≡ viewOf digits phase form rom bytes)

@@ -1,5 +1,6 @@
 // The words that `screen` is started with, and what it prints, as bytes in a lent buffer.
-ghost use Rattle.view.specs.Answers.{Viewed};
+ghost use mathlib.Core.Path.{_≡_};
+ghost use Rattle.view.specs.Answers.{valueOf, Viewed};
 
 mod count;
 mod put;
@@ -16,6 +17,18 @@ pub enum Answer {
     // How many bytes were written.
     Done(usize),
     ShortBuffer,
+}
+
+impl Answer {
+    // How many bytes were written; 0 beside a refusal.
+    pub fn value(self) -> usize
+        ensures { λ r. ⌜ r ≡ valueOf self ⌝ }
+    {
+        match self {
+            Answer::Done(size) => size,
+            Answer::ShortBuffer => 0,
+        }
+    }
 }
 
 // Runs a record from a part switched on; bytes behind what is written stay, and a refusal writes none.
