@@ -8,14 +8,11 @@ use mathlib.Core.Path.{_≡_, _∙_, ap, refl, subst⁻¹}
 use native.Mathlib.Omega.{arith}
 use Rattle.bus.proofs.Free.{freed, on-eight, first-waits, second-completes, other-disagrees}
 use Rattle.controller.specs.Memory.{Change}
-use Rattle.controller.specs.Part.{awaiting}
+use Rattle.controller.specs.Part.{awaiting, arranged, freshRegisters}
 use Rattle.controller.specs.Result.{Result, forgotten}
 use Rattle.controller.specs.declared.registers.Mode.{Mode}
 use Rattle.controller.specs.declared.registers.Registers.{Registers}
-use Rattle.counters.specs.Address.{display}
-use Rattle.counters.specs.Shift.{shift}
 use Rattle.counters.specs.declared.LineMode.the-variants.{Two}
-use Rattle.counters.specs.declared.counter.Counter.the-variants.{Display}
 use Rattle.event.specs.declared.Kind.{Kind}
 use Rattle.event.specs.declared.Kind.the-variants.{InstructionWrite, DataWrite, StatusRead, DataRead}
 use Rattle.halves.specs.Halves.{upper, isFour, halfFits}
@@ -69,18 +66,10 @@ first-allowed false true c d t = tt
 first-allowed false false true d t = tt
 first-allowed false false false d t = t
 
--- ---- the registers that the restart leaves, whatever they were
+-- ---- the registers that the restart leaves, whatever they were: those of a part just switched on, on four lines, with two lines, after a short instruction
 unfoldable pub restarted : Registers
-restarted = record {
-  counter = Display (display 0x00);
-  shift = shift 0;
-  mode = record { lines = Two; tall = false };
-  entry = record { up = true; shifts = false };
-  lights = record { display = false; cursor = false; blink = false };
-  bus = Four;
-  half = Half.Nothing;
-  busy = 10;
-}
+unfolding freshRegisters
+restarted = awaiting (arranged freshRegisters Four (record { lines = Two; tall = false })) Half.Nothing 10
 
 unfoldable pub Restarted : Registers → Type 0
 Restarted r = r ≡ restarted

@@ -1,4 +1,3 @@
 pub mod Table
-pub mod Answers
 pub mod Contracts
 pub mod Theorems

@@ -2,6 +2,4 @@ pub mod Letters
 pub mod Counts
 pub mod Shown
 pub mod Views
-pub mod Promise
 pub mod Settled
-pub mod Theorems

@@ -1,4 +1,3 @@
 pub mod Words
 pub mod View
-pub mod Answers
 pub mod Theorems

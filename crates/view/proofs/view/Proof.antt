@@ -1,11 +1,11 @@
 -- A buffer with room takes what is put; any other is refused.
 use borrow.Author.Needs.{needs}
-use Rattle.view.proofs.Promise.{refused, viewed}
+use Rattle.printing.proofs.Printed.{printed-short, printed-done}
 use Rattle.view.proofs.view.Statement.{statement}
 use Rattle.view.proofs.view.Tie as tie
 
 returns : tie.Need-returns
-returns c = refused _ _ _ _ _ _ (c .if1 .taken)
+returns c = printed-short _ _ _ (c .if1 .taken)
 
 put-view-requires : tie.Need-put-view-requires
 put-view-requires c κs = search needs
@@ -14,7 +14,7 @@ same-length : tie.Need-same-length
 same-length c = search needs
 
 returns-2 : tie.Need-returns-2
-returns-2 c = viewed _ _ _ _ _ _ _ _ (c .before .before .before .before .if1 .left) (c .before .before .put-view .ensures)
+returns-2 c = printed-done _ _ _ _ _ (c .before .before .before .before .if1 .left) (c .before .before .put-view .ensures)
 
 pub view-spec : {M : Type 1} → statement M
 view-spec = tie.close (tie.spec returns put-view-requires same-length returns-2)
