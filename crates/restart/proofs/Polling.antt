@@ -23,7 +23,7 @@ use Rattle.halves.specs.declared.Half.{Half}
 use Rattle.instructions.specs.declared.instruction.Instruction.the-variants.{Nothing}
 use Rattle.step.specs.Data.{readStatus, act}
 use Rattle.step.specs.Step.{firstHalf, secondHalf, onFour, refusedBusy}
-use Rattle.restart.specs.Polling.{Poll, Ticks, eventsOf, ticksOf, Calm, PollsAreWaits, CalmBetweenBytes}
+use Rattle.restart.specs.Polling.{Poll, Ticks, pauseEvents, pauseTicks, Calm, PollsAreWaits, CalmBetweenBytes}
 use Rattle.restart.specs.Writes.{halves}
 use Rattle.restart.proofs.Leads.{leads-to}
 use Rattle.restart.proofs.Restarting.{Allowed, calm-leads}
@@ -69,10 +69,10 @@ unfolding waited
 waited-calm c n t calm = subst⁻¹ (λ (x : Told). Calm (x .controller .registers)) (waited-told c n t) (record { four = calm .four; no-half = calm .no-half })
 
 pub polls-are-waits : PollsAreWaits
-unfolding eventsOf ticksOf afterEvents toldBy waits
+unfolding pauseEvents pauseTicks afterEvents toldBy waits
 polls-are-waits c t calm [] = refl
 polls-are-waits c t calm (Poll n m ∷ ps) =
-    ap (afterEvents (eventsOf ps)) (poll-changes-nothing c t calm n m) ∙ polls-are-waits c t calm ps
+    ap (afterEvents (pauseEvents ps)) (poll-changes-nothing c t calm n m) ∙ polls-are-waits c t calm ps
 polls-are-waits c t calm (Ticks n ∷ ps) = polls-are-waits (waitOf c n .controller) (range-kept (Wait n) c t) (waited-calm c n t calm) ps
 
 -- ---- between the bytes

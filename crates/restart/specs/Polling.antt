@@ -20,16 +20,16 @@ pub data Pause : Type 0 where
   Poll : (first second : ℕ) → Pause
   Ticks : ℕ → Pause
 
-unfoldable pub eventsOf : List Pause → List Event
-eventsOf [] = []
-eventsOf (Poll n m ∷ ps) = Transfer StatusRead n ∷ Transfer StatusRead m ∷ eventsOf ps
-eventsOf (Ticks n ∷ ps) = Wait n ∷ eventsOf ps
+unfoldable pub pauseEvents : List Pause → List Event
+pauseEvents [] = []
+pauseEvents (Poll n m ∷ ps) = Transfer StatusRead n ∷ Transfer StatusRead m ∷ pauseEvents ps
+pauseEvents (Ticks n ∷ ps) = Wait n ∷ pauseEvents ps
 
 -- the waits alone
-unfoldable pub ticksOf : List Pause → List ℕ
-ticksOf [] = []
-ticksOf (Poll n m ∷ ps) = ticksOf ps
-ticksOf (Ticks n ∷ ps) = n ∷ ticksOf ps
+unfoldable pub pauseTicks : List Pause → List ℕ
+pauseTicks [] = []
+pauseTicks (Poll n m ∷ ps) = pauseTicks ps
+pauseTicks (Ticks n ∷ ps) = n ∷ pauseTicks ps
 
 -- four lines, and no half waits
 pub record Calm (r : Registers) : Type 0 where
@@ -39,7 +39,7 @@ pub record Calm (r : Registers) : Type 0 where
 -- on four lines with no half waiting, a client that polls and waits leaves the part as one that only waits
 abbrev pub PollsAreWaits : Type 0
 PollsAreWaits =
-    (c : Controller) → T (inRange (c .registers)) → Calm (c .registers) → (pauses : List Pause) → afterEvents (eventsOf pauses) c ≡ waits (ticksOf pauses) c
+    (c : Controller) → T (inRange (c .registers)) → Calm (c .registers) → (pauses : List Pause) → afterEvents (pauseEvents pauses) c ≡ waits (pauseTicks pauses) c
 
 -- and so it is behind 3, 3, 3, 2 and behind each of the four bytes: after 4, 6, 8, 10 and 12 of the writes
 abbrev pub CalmBetweenBytes : Type 0

@@ -8,7 +8,7 @@ use Rattle.condition.proofs.Tests.{holds, and-left, and-right}
 use Rattle.controller.specs.declared.registers.Mode.{Mode}
 use Rattle.counters.specs.declared.LineMode.{LineMode}
 use Rattle.counters.specs.declared.LineMode.the-variants.{One, Two}
-use Rattle.size.specs.Size.{linesOf, mostDigits, hasDigits, rowsIn, bytesOf, mostBytes}
+use Rattle.size.specs.Size.{linesOf, mostDigits, hasDigits, rowsIn, bytesOf, mostDots}
 
 pub most-small : (lines : LineMode) → mostDigits lines ≤ 80
 unfolding mostDigits
@@ -26,11 +26,11 @@ digits-counted lines digits h =
     (leb→le 1 digits (and-left (leb 1 digits) _ (holds _ h)), omega (arith, most-small lines), most)
 
 -- no picture has more bytes than the largest
-bytes-small : (lines : LineMode) (tall : Bool) (digits : ℕ) → digits ≤ mostDigits lines → linesOf lines * rowsIn lines tall * digits ≤ mostBytes
+bytes-small : (lines : LineMode) (tall : Bool) (digits : ℕ) → digits ≤ mostDigits lines → linesOf lines * rowsIn lines tall * digits ≤ mostDots
 unfolding linesOf rowsIn mostDigits
 bytes-small One true digits h = omega arith
 bytes-small One false digits h = omega arith
 bytes-small Two tall digits h = omega arith
 
-pub picture-small : (mode : Mode) (digits : ℕ) → hasDigits (mode .lines) digits ≡ true → bytesOf mode digits ≤ mostBytes
+pub picture-small : (mode : Mode) (digits : ℕ) → hasDigits (mode .lines) digits ≡ true → bytesOf mode digits ≤ mostDots
 picture-small mode digits h = bytes-small (mode .lines) (mode .tall) digits (digits-counted (mode .lines) digits h .2)

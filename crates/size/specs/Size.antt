@@ -33,5 +33,5 @@ abbrev pub bytesOf : Mode → ℕ → ℕ
 bytesOf mode digits = linesOf (mode .lines) * rowsOf mode * digits
 
 -- no picture has more: 11 rows of 80 digits
-abbrev pub mostBytes : ℕ
-mostBytes = 880
+abbrev pub mostDots : ℕ
+mostDots = 880

@@ -9,7 +9,7 @@ use native.Mathlib.Omega.{arith}
 use Rattle.controller.specs.Answers.{saidOf}
 use Rattle.controller.specs.declared.answer.Answer.{Answer}
 use Rattle.controller.specs.declared.answer.Answer.the-variants.{Done, FirstHalf, Busy, HalvesDisagree, NoSuchAddress, NotInRange}
-use Rattle.event.specs.Kind.{numberOn}
+use Rattle.event.specs.Kind.{kindNumber}
 use Rattle.event.specs.declared.Event.{Event}
 use Rattle.event.specs.declared.Event.the-variants.{Transfer, Wait}
 use Rattle.event.specs.declared.Kind.{Kind}
@@ -72,7 +72,7 @@ module _ (number kind value answer read : ℕ) (w : Narrow number kind value ans
           (puts-then place next end columns (decimalOf read ++ textOf "\n") out mid left (omega arith) p q, omega (arith, sizes, p .next, q .next, length-append (decimalOf read) (textOf "\n")))
 
 -- the kind of an event is one digit
-kind-number-short : (kind : Kind) → numberOn kind < 10
+kind-number-short : (kind : Kind) → kindNumber kind < 10
 kind-number-short InstructionWrite = omega arith
 kind-number-short DataWrite = omega arith
 kind-number-short StatusRead = omega arith

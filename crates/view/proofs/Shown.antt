@@ -24,7 +24,7 @@ use Rattle.picture.proofs.Lines.{length-picture}
 use Rattle.picture.specs.Answers.{refusals, answerFor, bufferFor}
 use Rattle.picture.specs.Picture.{pictureOf}
 use Rattle.size.proofs.Sizes.{picture-small}
-use Rattle.size.specs.Size.{mostBytes, bytesOf, hasDigits}
+use Rattle.size.specs.Size.{mostDots, bytesOf, hasDigits}
 use Rattle.text.specs.Text.{refusedOf}
 use Rattle.view.specs.View.{shownOf}
 
@@ -34,13 +34,13 @@ both true true e = (refl, refl)
 both true false e = absurd (omega arith)
 both false whole e = absurd (omega arith)
 
-module _ (c : Controller) (digits : ℕ) (phase : Phase) (form : Form) (rom before : List ℕ) (in-range : inRange (c .registers) ≡ true) (room : length before ≡ mostBytes) where
+module _ (c : Controller) (digits : ℕ) (phase : Phase) (form : Form) (rom before : List ℕ) (in-range : inRange (c .registers) ≡ true) (room : length before ≡ mostDots) where
   abbrev has : Bool
   has = hasDigits (c .registers .mode .lines) digits
 
   by-digits : (b : Bool) → has ≡ b → answerFor c digits (length rom) (length before) ≡ cond (not b) 4 (cond (not (eqb (length rom) imageSize)) 5 0)
   unfolding answerFor refusals firstOf
-  by-digits true e = rw (in-range, e, room, le-ltb mostBytes (bytesOf (c .registers .mode) digits) (picture-small (c .registers .mode) digits e))
+  by-digits true e = rw (in-range, e, room, le-ltb mostDots (bytesOf (c .registers .mode) digits) (picture-small (c .registers .mode) digits e))
   by-digits false e = rw (in-range, e)
 
   shown-refused : (n : ℕ) (b whole : Bool) → n ≡ cond (not b) 4 (cond (not whole) 5 0) → (n ≡ 0 → ⊥) → (shown : List ℕ) → refusedOf n ≡ cond b (cond whole shown (refusedOf 5)) (refusedOf 4)

@@ -10,7 +10,7 @@ use Rattle.drawing.specs.declared.form.Form.the-variants.{Text}
 use Rattle.picture.proofs.Lines.{length-picture}
 use Rattle.picture.specs.Answers.{answerFor}
 use Rattle.picture.specs.Picture.{pictureOf}
-use Rattle.size.specs.Size.{mostBytes}
+use Rattle.size.specs.Size.{mostDots}
 use Rattle.view.proofs.Shown.{refusal-puts, dots-there, drawing-puts}
 use Rattle.view.proofs.put.show.Statement.{statement}
 use Rattle.view.proofs.put.show.Tie as tie
@@ -20,10 +20,10 @@ start c = let copied = c .before .before .before in copied .before .before .befo
 
 -- the dots before they are drawn
 abbrev blank : List ℕ
-blank = replicate mostBytes 0
+blank = replicate mostDots 0
 
-room : length blank ≡ mostBytes
-room = length-replicate {A = ℕ} mostBytes 0
+room : length blank ≡ mostDots
+room = length-replicate {A = ℕ} mostDots 0
 
 answered : (c : tie.After-number) →
     let l = start (c .before .before) .args in
