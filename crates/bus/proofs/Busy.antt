@@ -84,7 +84,7 @@ in-range-before (n ∷ ns) c t =
     of-wait (InRangeBefore c) c n (λ u v. u) (λ v. v) (in-range-before ns (waitOf c n .controller) t)
 
 -- a part that is not busy refuses nothing with 1
-pub idle : (c : Controller) (k : Kind) (n : ℕ) → c .registers .busy ≡ 0 → T (not (refusedBusy (c .registers) k))
+idle : (c : Controller) (k : Kind) (n : ℕ) → c .registers .busy ≡ 0 → T (not (refusedBusy (c .registers) k))
 unfolding refusedBusy
 idle c k n e = subst (λ (b : Bool). T (not (not b && not (isStatus k)))) (sym (eq-eqb _ _ e)) tt
 

@@ -12,11 +12,11 @@ use Rattle.lent.specs.Buffer.{over, unlessRefused}
 -- ---- new bytes at the front
 
 module _ (new out : List ℕ) (n : ℕ) (size : length new ≡ n) where
-  pub over-by : over new out ≡ new ++ drop n out
+  over-by : over new out ≡ new ++ drop n out
   unfolding over
   over-by = ap (λ (k : ℕ). new ++ drop k out) size
 
-  pub over-front : take n (over new out) ≡ new
+  over-front : take n (over new out) ≡ new
   over-front = ap (take n) over-by ∙ take-at new (drop n out) n size
 
   pub over-rest : drop n (over new out) ≡ drop n out

@@ -8,7 +8,7 @@ use native.Mathlib.Numerals.{add-one}
 use native.Mathlib.Omega.{arith}
 use Rattle.lent.specs.Put.{putAt, Puts}
 
-pub put-length : (place : ℕ) (new out : List ℕ) → place + length new ≤ length out → length (putAt place new out) ≡ length out
+put-length : (place : ℕ) (new out : List ℕ) → place + length new ≤ length out → length (putAt place new out) ≡ length out
 unfolding putAt
 put-length place new out h = simp (length-append, length-take, length-drop) (omega arith)
 
@@ -28,7 +28,7 @@ puts-one place byte out h = record { next = refl; buffer = put-one place byte ou
 behind : (front rest next : List ℕ) (place : ℕ) → length front ≡ place → take place (front ++ rest) ++ (next ++ drop (place + length next) (front ++ rest)) ≡ front ++ (next ++ drop (length next) rest)
 behind front rest next place e = rw (← e, take-append-seam, drop-append-add)
 
-pub put-more : (place : ℕ) (first next out : List ℕ) → place ≤ length out → putAt (place + length first) next (putAt place first out) ≡ putAt place (first ++ next) out
+put-more : (place : ℕ) (first next out : List ℕ) → place ≤ length out → putAt (place + length first) next (putAt place first out) ≡ putAt place (first ++ next) out
 unfolding putAt
 put-more place first next out h =
     let front : length (take place out ++ first) ≡ place + length first = length-append (take place out) first ∙ ap (λ (n : ℕ). n + length first) (length-take-le place out h) in

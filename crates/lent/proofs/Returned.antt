@@ -8,7 +8,7 @@ use native.Mathlib.Nat.{zero-add, add-sub-cancel-left}
 use Rattle.lent.specs.Put.{putAt, Puts}
 
 -- what is lent from the end of a front on, and given back
-pub rest-put : (front rest new : List ℕ) (at : ℕ) → length front ≡ at
+rest-put : (front rest new : List ℕ) (at : ℕ) → length front ≡ at
     → take at (front ++ rest) ++ (new ++ drop (length (front ++ rest) - at) (drop at (front ++ rest))) ≡ front ++ new
 rest-put front rest new at e =
     rw (take-at front rest at e, drop-at front rest at e, length-append, e, add-sub-cancel-left, drop-length, append-nil)
@@ -23,7 +23,7 @@ behind-put head new part d out at p e =
 abbrev pub twoPut : (a b out : List ℕ) (m n : ℕ) → List ℕ
 twoPut a b out m n = take m (a ++ drop m out) ++ (b ++ drop (m + n - m) (drop m (a ++ drop m out)))
 
-pub two-put : (a b out : List ℕ) (m n : ℕ) → length a ≡ m → twoPut a b out m n ≡ (a ++ b) ++ drop (m + n) out
+two-put : (a b out : List ℕ) (m n : ℕ) → length a ≡ m → twoPut a b out m n ≡ (a ++ b) ++ drop (m + n) out
 two-put a b out m n e =
     rw (take-at a (drop m out) m e, drop-at a (drop m out) m e, add-sub-cancel-left, drop-drop) (sym (append-assoc a b _))
 
