@@ -1,10 +1,10 @@
 -- Busy time: after each answer what the table says, lowered by waits, and waited out by 3,750 ticks.
 use Prim.Native.Nat.{ℕ, _-_}
 use borrow.Author.Tests.{eq-eqb}
-use lib.Dec.{T, eqb, T-not}
-use mathlib.Core.Bool.{Bool, cond, not, _&&_}
+use lib.Dec.{T, eqb}
+use mathlib.Core.Bool.{Bool, false, cond, not, _&&_}
 use mathlib.Core.List.{List, [], _∷_}
-use mathlib.Core.Path.{_≡_, _∙_, ap, refl, subst, sym}
+use mathlib.Core.Path.{_≡_, _∙_, ap, refl, subst}
 use native.Mathlib.Omega.{arith}
 use Rattle.condition.proofs.Tests.{is-true, not-not, and-left, and-right, split}
 use Rattle.condition.specs.First.{ExactlyFrom}
@@ -13,6 +13,7 @@ use Rattle.controller.specs.Part.{waited, inRange}
 use Rattle.controller.specs.Result.{Result}
 use Rattle.controller.specs.Told.{Told, addressed, unchanged}
 use Rattle.controller.specs.declared.Controller.{Controller}
+use Rattle.controller.specs.declared.registers.Registers.{Registers}
 use Rattle.event.specs.Kind.{isStatus}
 use Rattle.event.specs.declared.Event.the-variants.{Wait}
 use Rattle.event.specs.declared.Kind.{Kind}
@@ -84,9 +85,9 @@ in-range-before (n ∷ ns) c t =
     of-wait (InRangeBefore c) c n (λ u v. u) (λ v. v) (in-range-before ns (waitOf c n .controller) t)
 
 -- a part that is not busy refuses nothing with 1
-idle : (c : Controller) (k : Kind) (n : ℕ) → c .registers .busy ≡ 0 → T (not (refusedBusy (c .registers) k))
+pub idle-free : (r : Registers) (k : Kind) → r .busy ≡ 0 → refusedBusy r k ≡ false
 unfolding refusedBusy
-idle c k n e = subst (λ (b : Bool). T (not (not b && not (isStatus k)))) (sym (eq-eqb _ _ e)) tt
+idle-free r k e = ap (λ (x : Bool). not x && not (isStatus k)) (eq-eqb (r .busy) 0 e)
 
 pub waited-enough : WaitedEnough
 unfolding ExactlyFrom
@@ -96,4 +97,4 @@ waited-enough c ns h k n e =
     let t = in-range-before ns c (not-not (inRange (after .registers)) (and-left (not (not (inRange (after .registers)))) (refusedBusy (after .registers) k) on)) in
     let f : InRange (c .registers) = facts (c .registers) t in
     let z : after .registers .busy ≡ 0 = waits-lower ns c t ∙ omega arith in
-    T-not (refusedBusy (after .registers) k) (idle after k n z) (and-right (not (not (inRange (after .registers)))) (refusedBusy (after .registers) k) on)
+    subst T (idle-free (after .registers) k z) (and-right (not (not (inRange (after .registers)))) (refusedBusy (after .registers) k) on)

@@ -1,8 +1,7 @@
 -- An instruction write to a part that is free: what it comes to on eight lines, and on four by the half that waits.
 use Prim.Native.Nat.{ℕ, _+_, _*_}
-use borrow.Author.Tests.{eq-eqb}
 use lib.Dec.{T}
-use mathlib.Core.Bool.{Bool, false, cond, not, _&&_}
+use mathlib.Core.Bool.{Bool, false, cond}
 use mathlib.Core.List.{List, [], _∷_}
 use mathlib.Core.Path.{_≡_, _∙_, ap, refl, sym}
 use Rattle.condition.proofs.Tests.{is-true}
@@ -11,7 +10,7 @@ use Rattle.controller.specs.Result.{forgotten, leaving}
 use Rattle.controller.specs.Told.{Told, unchanged}
 use Rattle.controller.specs.declared.Controller.{Controller}
 use Rattle.controller.specs.declared.registers.Registers.{Registers}
-use Rattle.event.specs.Kind.{isStatus, alike}
+use Rattle.event.specs.Kind.{alike}
 use Rattle.event.specs.declared.Event.the-variants.{Wait}
 use Rattle.event.specs.declared.Kind.{Kind}
 use Rattle.event.specs.declared.Kind.the-variants.{InstructionWrite}
@@ -25,7 +24,7 @@ use Rattle.step.specs.Data.{readOf, act}
 use Rattle.step.specs.Step.{firstHalf, secondHalf, onFour, onBus, refusedBusy, resultFor, stepped}
 use Rattle.bus.specs.Events.{toldBy, waits}
 use Rattle.bus.specs.Transfer.{transferOf, waitOf}
-use Rattle.bus.proofs.Busy.{waited-told}
+use Rattle.bus.proofs.Busy.{idle-free, waited-told}
 use Rattle.bus.proofs.Range.{range-kept}
 
 -- ---- waits change nothing but the busy time
@@ -54,10 +53,6 @@ unfolding transferOf
 transfer-steps c k n t = ap (λ (b : Bool). cond b (stepped c k n) (unchanged 16 c)) (is-true (inRange (c .registers)) t)
 
 -- ---- a transfer that is not refused with 1
-pub idle-free : (r : Registers) (k : Kind) → r .busy ≡ 0 → refusedBusy r k ≡ false
-unfolding refusedBusy
-idle-free r k e = ap (λ (x : Bool). not x && not (isStatus k)) (eq-eqb (r .busy) 0 e)
-
 module _ (r : Registers) (k : Kind) (n b : ℕ) (free : refusedBusy r k ≡ false) where
   free-bus : resultFor r k n b ≡ onBus (r .bus) k r n (readOf k r b)
   unfolding resultFor

@@ -34,7 +34,8 @@ use Rattle.bus.specs.Events.{toldBy, afterEvents, waits}
 use Rattle.bus.specs.Refusals.{byteOf}
 use Rattle.bus.specs.Transfer.{transferOf, waitOf}
 use Rattle.bus.specs.Written.{Whole, ReachedWhole, byteIn, pointed, Wrote, WriteIsRead}
-use Rattle.bus.proofs.Free.{withBusy, waits-only-busy, transfer-steps, idle-free, eight-acts, four-acts}
+use Rattle.bus.proofs.Busy.{idle-free}
+use Rattle.bus.proofs.Free.{withBusy, waits-only-busy, transfer-steps, eight-acts, four-acts}
 use Rattle.bus.proofs.Outcomes.{of-step, of-transfer}
 use Rattle.bus.proofs.Range.{range-kept}
 
