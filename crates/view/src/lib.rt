@@ -3,7 +3,6 @@ ghost use Rattle.drawing.specs.Drawing.{mostDrawn};
 ghost use Rattle.printing.specs.Answers.{Printed};
 ghost use Rattle.view.specs.View.{viewOf};
 
-mod count;
 mod put;
 mod word;
 mod words;

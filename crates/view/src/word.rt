@@ -1,6 +1,7 @@
 // Words that are given letter by letter.
 ghost use mathlib.Core.Path.{_≡_};
-ghost use Rattle.view.specs.Words.{isWord, phaseIn, formIn};
+ghost use Rattle.view.specs.Words.{phaseIn, formIn};
+use arguments::is_word;
 use dots::Phase;
 use drawing::Form;
 
@@ -12,22 +13,6 @@ pub enum Phased {
 pub enum Formed {
     InForm(Form),
     NoForm,
-}
-
-fn is_word(text: &[u8], word: &[u8]) -> bool
-    ensures { λ r. ⌜ r ≡ isWord (now (text .entry)) (now (word .entry)) ⌝ }
-{
-    if text.len() != word.len() {
-        return false;
-    }
-    let mut i = 0;
-    while i < text.len() {
-        if text[i] != word[i] {
-            return false;
-        }
-        i += 1;
-    }
-    true
 }
 
 pub(crate) fn phase_in(word: &[u8]) -> Phased

@@ -4,10 +4,10 @@ use borrow.Author.Needs.{needs}
 use lib.ListN.{length, drop}
 use mathlib.Core.Path.{_≡_, refl, sym, _∙_}
 use native.Mathlib.Nat.{le-antisymm}
-use Rattle.view.specs.Words.{isWord}
-use Rattle.view.proofs.Letters.{other-length, letters-differ, letters-same, no-more}
-use Rattle.view.proofs.word.is_word.Statement.{statement}
-use Rattle.view.proofs.word.is_word.Tie as tie
+use Rattle.arguments.specs.Words.{isWord}
+use Rattle.arguments.proofs.Letters.{other-length, letters-differ, letters-same, no-more}
+use Rattle.arguments.proofs.word.is_word.Statement.{statement}
+use Rattle.arguments.proofs.word.is_word.Tie as tie
 
 abbrev Inv-loop : tie.InvT-loop
 Inv-loop text word i₀ i = (i ≤ length text) × (isWord text word ≡ isWord (drop i text) (drop i word))

@@ -8,7 +8,7 @@ use mathlib.Core.Bool.{Bool, true, false, _&&_}
 use mathlib.Core.List.{List, [], _∷_}
 use mathlib.Core.Path.{_≡_, refl, ap, _∙_}
 use native.Mathlib.Numerals.{add-one}
-use Rattle.view.specs.Words.{isWord}
+use Rattle.arguments.specs.Words.{isWord}
 
 pub and-false : (b : Bool) → (b && false) ≡ false
 and-false true = refl
