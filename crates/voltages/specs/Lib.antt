@@ -1,0 +1,3 @@
+pub mod Voltages
+pub mod Answers
+pub mod Theorems
