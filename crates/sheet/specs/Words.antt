@@ -10,19 +10,15 @@ use Rattle.text.specs.Text.{textOf}
 use Rattle.voltages.specs.declared.Bias.the-variants.{Quarter, Fifth}
 use Rattle.sheet.specs.declared.words.Asked.{Asked}
 use Rattle.sheet.specs.declared.words.Asked.the-variants.{Sheet, Usage}
-use Rattle.sheet.specs.declared.words.Biased.{Biased}
-use Rattle.sheet.specs.declared.words.Biased.the-variants.{InBias, NoBias}
-
-unfoldable pub biasIn : List ℕ → Biased
-biasIn word = cond (isWord (textOf "quarter") word) (InBias Quarter) (cond (isWord (textOf "fifth") word) (InBias Fifth) NoBias)
 
 -- VDD and SPAN are decimal, 0 to 65,535; a word that means nothing asks for the usage line
-unfoldable pub askedOf : (vdd span : Number) → Biased → Asked
-askedOf (Decimal vdd) (Decimal span) (InBias bias) = Sheet vdd span bias
-askedOf (Decimal vdd) (Decimal span) NoBias = Usage
-askedOf (Decimal vdd) NoNumber biased = Usage
-askedOf NoNumber span biased = Usage
+unfoldable pub askedOf : (vdd span : Number) → (bias : List ℕ) → Asked
+askedOf (Decimal vdd) (Decimal span) bias =
+    cond (isWord (textOf "quarter") bias) (Sheet vdd span Quarter)
+    (cond (isWord (textOf "fifth") bias) (Sheet vdd span Fifth) Usage)
+askedOf (Decimal vdd) NoNumber bias = Usage
+askedOf NoNumber span bias = Usage
 
 -- and so does another number of words
 unfoldable pub askedBy : (words : ℕ) (vdd span bias : List ℕ) → Asked
-askedBy words vdd span bias = cond (eqb words 3) (askedOf (numberIn 65535 vdd) (numberIn 65535 span) (biasIn bias)) Usage
+askedBy words vdd span bias = cond (eqb words 3) (askedOf (numberIn 65535 vdd) (numberIn 65535 span) bias) Usage
