@@ -131,15 +131,16 @@ static bool alike(const struct rules *rules, int vdd, int span, bool fifth, bool
     return same;
 }
 
-/* A buffer one byte too short takes nothing. */
+/* A buffer one byte too short takes nothing, though this text would fit: its four lines have no sign. */
 static bool short_refused(void)
 {
+    enum { SIGNS = 4 };
     uint8_t left[ROOM];
     memset(left, UNTOUCHED, sizeof left);
     bool refused = bias_sheet(320, 256, true, left, ROOM - 1) == 0;
     for (size_t at = 0; at < sizeof left; at++)
         refused = refused && left[at] == UNTOUCHED;
-    return refused && bias_sheet(320, 256, true, left, ROOM) == ROOM - 4;
+    return refused && bias_sheet(320, 256, true, left, ROOM) == ROOM - SIGNS;
 }
 
 /* The numbers from two below a range to two above it, and the ends of 16 bits. */

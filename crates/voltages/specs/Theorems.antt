@@ -43,7 +43,7 @@ abbrev pub LadderEnds : Type 0
 LadderEnds = (vdd span : ℕ) (bias : Bias) → T (hasVdd vdd) → T (hasSpan span)
     → Equals (stepOf (divisorOf bias) vdd span 0) vdd 0 64 × Equals (stepOf (divisorOf bias) vdd span (divisorOf bias)) vdd span 64
 
--- VDD > V1 > V2 >= V3 > V4 > V5: each step is below the one before, and V2 = V3 in quarter bias
+-- the sheet: VDD > V1 > V2 >= V3 > V4 > V5; each step is below the one before, and in quarter bias V2 = V3 is one step
 abbrev pub LadderFalls : Type 0
 LadderFalls = (vdd span k : ℕ) (bias : Bias) → T (hasVdd vdd) → T (hasSpan span) → k < divisorOf bias
     → T (lt (stepOf (divisorOf bias) vdd span (suc k)) (stepOf (divisorOf bias) vdd span k))
