@@ -1,8 +1,7 @@
 -- A bench record reads back as it was written.
-use Prim.Native.Nat.{ℕ, suc, _+_, _-_, _*_, _/_, _%_, _≤_, _<_}
-use borrow.Author.Tests.{eq-eqb, le-ltb, le-leb}
-use lib.ListN.{length, getD, drop, length-append, length-drop}
-use lib.Seq.{drop-drop}
+use Prim.Native.Nat.{ℕ, suc, _+_, _*_, _≤_, _<_}
+use borrow.Author.Tests.{le-ltb}
+use lib.ListN.{length, drop, length-append}
 use mathlib.Core.Bool.{false}
 use mathlib.Core.List.{List, [], _∷_, _++_, append-assoc, append-nil}
 use mathlib.Core.Option.{Option, none, some}
@@ -15,19 +14,15 @@ use Rattle.appending.specs.declared.answer.Answer.the-variants.{Done}
 use Rattle.condition.specs.First.{firstOf}
 use Rattle.event.specs.declared.Event.{Event}
 use Rattle.lent.proofs.Left.{front-and-rest}
-use Rattle.record.proofs.Encoded.{Known, fits-known, known, word-of-value}
-use Rattle.record.proofs.Framed.{AllKnown, known-more, record-sound, record-size, sound-front, sound-record}
-use Rattle.record.proofs.FrontEvents.{drop-three}
-use Rattle.record.proofs.Settled.{event-at-settled}
+use Rattle.record.proofs.Encoded.{fits-known, known}
+use Rattle.record.proofs.Framed.{AllKnown, known-more, record-sound, record-events, record-size, sound-front, sound-record}
+use Rattle.record.proofs.InTurn.{sound-read, read-same, given-size}
 use Rattle.record.proofs.Sound.{sound}
-use Rattle.record.proofs.Standing.{stands-end, stands-some}
-use Rattle.record.specs.Event.{eventOf, isNone, rawOf, Fits, wordOf, bytesOf}
-use Rattle.record.specs.Place.{eventAt, nextOf, Stands}
-use Rattle.record.specs.Reading.{AllFit, Read, no-more, then, givenFrom}
-use Rattle.record.specs.Record.{mostEvents, mostBytes, framed, bodyOf, recordOf, threeAt, frontEvents, eventsOf, checkOf}
+use Rattle.record.specs.Event.{eventOf, isNone, rawOf, Fits}
+use Rattle.record.specs.Reading.{AllFit, Read, givenFrom}
+use Rattle.record.specs.Record.{mostEvents, mostBytes, framed, bodyOf, recordOf, frontEvents, eventsOf, checkOf}
 use Rattle.record.specs.declared.answer.Answer.the-variants.{Done as Sound}
 use Rattle.record.specs.declared.places.Step.{Step}
-use Rattle.record.specs.declared.places.Step.the-variants.{Found}
 use Rattle.read_back.specs.Theorems.{ReadsBack, SoundExactlyWhenWritten, EarlierEventsStay}
 use Rattle.read_back.specs.Written.{Written, begun, more}
 use Rattle.read_back.proofs.Longer.{record-longer, longer-size, longer-sound}
@@ -57,50 +52,6 @@ made (more {events} {bytes} {out} {left} {r} event w p done) =
 written-size : {events : List Event} {bytes : List ℕ} → Written events bytes → length bytes ≡ length events * 3 + 3
 written-size {events} w = ap length (made w .same) ∙ record-size events
 
--- ---- reading
-
-three-there : (bytes : List ℕ) (place kind high low : ℕ) (rest : List ℕ) → drop place bytes ≡ kind ∷ high ∷ low ∷ rest → (place + 3 ≤ length bytes) × (threeAt bytes place ≡ eventOf kind (wordOf high low))
-unfolding threeAt
-three-there bytes place kind high low rest e =
-    let size : length bytes - place ≡ length rest + 3 = sym (length-drop place bytes) ∙ ap length e ∙ omega arith in
-    let fits : place + 3 ≤ length bytes = omega arith in
-    let there : getD bytes place 0 ∷ getD bytes (place + 1) 0 ∷ getD bytes (place + 2) 0 ∷ drop (place + 3) bytes ≡ kind ∷ high ∷ low ∷ rest = sym (drop-three bytes place fits) ∙ e in
-    let a : getD bytes place 0 ≡ kind = cc in
-    let b : getD bytes (place + 1) 0 ≡ high = cc in
-    let c : getD bytes (place + 2) 0 ≡ low = cc in
-    (fits, simp (le-leb _ _ fits, a, b, c))
-
-event-there : (bytes : List ℕ) (place : ℕ) (event : Event) (rest : List ℕ) → drop place bytes ≡ bytesOf (rawOf event) ++ rest → 3 ≤ place → place % 3 ≡ 0 → Known event → Stands bytes place (Found event (place + 3))
-unfolding eventAt
-event-there bytes place event rest e behind-head third k =
-    let there = three-there bytes place (rawOf event .kind) (rawOf event .value / 256) (rawOf event .value % 256) rest e in
-    let fits : place + 3 ≤ length bytes = there .0 in
-    let found : eventAt bytes place ≡ some event = simp (le-leb 3 place behind-head, eq-eqb (place % 3) 0 third) (there .1 ∙ ap (eventOf (rawOf event .kind)) (word-of-value (rawOf event .value)) ∙ k) in
-    stands-some bytes place (λ z. omega arith) event found
-
--- each event stands at its place, and behind the last is the end
-read-on : (bytes : List ℕ) (place : ℕ) (events : List Event) → drop place bytes ≡ bodyOf events → 3 ≤ place → place % 3 ≡ 0 → place ≤ length bytes → AllKnown events → Read bytes place (givenFrom place events)
-unfolding bodyOf
-read-on bytes place [] e behind-head third within all = then (stands-end bytes place (omega (arith, length-drop place bytes, ap length e))) no-more
-read-on bytes place (event ∷ events) e behind-head third within all =
-    let behind : drop (place + 3) bytes ≡ bodyOf events = sym (drop-drop 3 place bytes) ∙ ap (drop 3) e in
-    let within′ : place + 3 ≤ length bytes = omega (arith, length-drop place bytes, ap length e) in
-    then (event-there bytes place event (bodyOf events) e behind-head third (all .0)) (read-on bytes (place + 3) events behind (omega arith) (omega arith) within′ (all .1))
-
--- as many answers from a place are the same answers
-read-same : {bytes : List ℕ} {place : ℕ} {answers answers′ : List Step} → Read bytes place answers → Read bytes place answers′ → length answers ≡ length answers′ → answers ≡ answers′
-read-same no-more no-more size = refl
-read-same no-more (then stands′ rest′) size = absurd (omega arith)
-read-same (then stands rest) no-more size = absurd (omega arith)
-read-same {bytes} {place} (then {r = r} {answers = answers} stands rest) (then {r = r′} {answers = answers′} stands′ rest′) size =
-    let same : r ≡ r′ = event-at-settled bytes place r r′ stands stands′ in
-    let on : Read bytes (nextOf r place) answers′ = subst (λ (t : Step). Read bytes (nextOf t place) answers′) (sym same) rest′ in
-    ap (λ (t : Step). t ∷ answers) same ∙ ap (λ (l : List Step). r′ ∷ l) (read-same rest on (omega arith))
-
-given-size : (place : ℕ) (events : List Event) → length (givenFrom place events) ≡ suc (length events)
-given-size place [] = refl
-given-size place (event ∷ events) = ap suc (given-size (place + 3) events)
-
 -- ---- the theorems
 
 written-sound : {events : List Event} {bytes : List ℕ} → Written events bytes → checkOf bytes ≡ 0
@@ -116,11 +67,9 @@ unfolding emptyOf firstOf
 empty-zero buffer h = simp (le-ltb _ _ h)
 
 read-written : {events : List Event} {bytes : List ℕ} → Written events bytes → Read bytes 3 (givenFrom 3 events)
-unfolding recordOf framed
 read-written {events} {bytes} w =
     let m = made w in
-    let size = written-size w in
-    read-on bytes 3 events (ap (drop 3) (m .same)) (omega arith) refl (omega arith) (m .all)
+    subst (λ (l : List Event). Read bytes 3 (givenFrom 3 l)) (ap eventsOf (m .same) ∙ record-events events (m .all) (m .few)) (sound-read bytes (written-sound w))
 
 read-no-other : {events : List Event} {bytes : List ℕ} {answers : List Step} → Written events bytes → Read bytes 3 answers → length answers ≡ suc (length events) → answers ≡ givenFrom 3 events
 read-no-other {events} w r size = read-same r (read-written w) (size ∙ sym (given-size 3 events))

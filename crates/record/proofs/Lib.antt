@@ -4,6 +4,6 @@ pub mod FrontEvents
 pub mod Sound
 pub mod Standing
 pub mod Framed
-pub mod InTurn
 pub mod Exactly
 pub mod Settled
+pub mod InTurn
