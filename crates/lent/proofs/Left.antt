@@ -12,7 +12,7 @@ use Rattle.lent.specs.Buffer.{over, unlessRefused}
 -- ---- new bytes at the front
 
 module _ (new out : List ℕ) (n : ℕ) (size : length new ≡ n) where
-  over-by : over new out ≡ new ++ drop n out
+  pub over-by : over new out ≡ new ++ drop n out
   unfolding over
   over-by = ap (λ (k : ℕ). new ++ drop k out) size
 

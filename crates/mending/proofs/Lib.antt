@@ -1,0 +1,9 @@
+pub mod Kept
+pub mod Written
+pub mod Answers
+pub mod Refused
+pub mod Exactly
+pub mod Settled
+pub mod Longest
+pub mod Sound
+pub mod Field
