@@ -72,11 +72,19 @@ pub fn put_number(n: u16, mark: u8, place: usize, out: &mut [u8]) -> usize
     end + 1
 }
 
-// What both programs print for a refusal.
+// A name, and a number behind it with the byte that ends it.
+pub fn put_named(name: &[u8], n: u16, mark: u8, place: usize, out: &mut [u8]) -> usize
+    requires { ⌜ place + length (now name) + length (decimalOf n) < length (now out) ⌝ }
+    ensures { λ r. ⌜ Puts (now (name .entry) ++ (decimalOf n ++ (mark ∷ []))) place (now (out .entry)) r (now (out .exit)) ⌝ }
+{
+    let next = put_text(name, place, out);
+    put_number(n, mark, next, out)
+}
+
+// What a program prints for a refusal.
 pub fn put_refused(number: u8, out: &mut [u8]) -> usize
     requires { ⌜ 12 ≤ length (now out) ⌝ }
     ensures { λ r. ⌜ Puts (refusedOf number) 0 (now (out .entry)) r (now (out .exit)) ⌝ }
 {
-    let next = put_text(b"refused ", 0, out);
-    put_number(number as u16, b'\n', next, out)
+    put_named(b"refused ", number as u16, b'\n', 0, out)
 }

@@ -1,34 +1,24 @@
--- The word is put, and then the number behind it.
+-- The number has at most three digits, so that it fits.
 use borrow.Author.Needs.{needs}
 use native.Mathlib.Omega.{arith}
-use Rattle.lent.proofs.Placed.{puts-then}
 use Rattle.text.specs.Text.{refusedOf}
 use Rattle.text.proofs.Decimal.{digits-below}
 use Rattle.text.proofs.put_refused.Statement.{statement}
 use Rattle.text.proofs.put_refused.Tie as tie
 
-slice-aggregate-put-text : tie.Need-slice-aggregate-put-text
-slice-aggregate-put-text c = search needs
+slice-aggregate-put-named : tie.Need-slice-aggregate-put-named
+slice-aggregate-put-named c = search needs
 
-put-text-requires : tie.Need-put-text-requires
-put-text-requires c κs = search needs
-
-put-number-requires : tie.Need-put-number-requires
-put-number-requires c κs =
-    let word = c .before .before .before .before in
-    omega (arith, digits-below 2 (word .before .before .before .args .number) (omega arith))
+put-named-requires : tie.Need-put-named-requires
+put-named-requires c κs = omega (arith, digits-below 2 (c .before .before .before .args .number) (omega arith))
 
 same-length : tie.Need-same-length
 same-length c = search needs
 
 returns : tie.Need-returns
 unfolding refusedOf
-returns c =
-    let number = c .before .before in
-    let word = number .before .before .before .before in
-    puts-then _ _ _ _ _ _ _ _ (omega arith) (word .put-text .ensures) (number .put-number .ensures)
+returns c = c .before .before .put-named .ensures
 
 pub put-refused-spec : {M : Type 1} → statement M
 put-refused-spec =
-    tie.close
-    (tie.spec slice-aggregate-put-text put-text-requires put-number-requires same-length returns)
+    tie.close (tie.spec slice-aggregate-put-named put-named-requires same-length returns)
