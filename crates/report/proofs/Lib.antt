@@ -1,0 +1,5 @@
+pub mod Parts
+pub mod Outcomes
+pub mod Reported
+pub mod Front
+pub mod Settled
