@@ -1,70 +1,56 @@
+-- The record and the line lie within their buffers, by the theorem of what is reported.
 use borrow.Author.Needs.{needs}
+use lib.Seq.{length-take-le}
+use mathlib.Core.Path.{sym}
+use Rattle.report.proofs.Front.{reported-at-the-front}
 use Rattle.mend.proofs.main.Statement.{statement}
 use Rattle.mend.proofs.main.Tie as tie
-use Rattle.mend.proofs.main.Reads as reads
-use Rattle.mend.proofs.main.Lts as lts
-use Rattle.io.proofs.read_full.Reads as read-full-reads
-use Rattle.io.proofs.write_all.Reads as write-all-reads
-use Rattle.report.proofs.answer.Answer.value.Reads as value-reads
-use Rattle.report.proofs.report.Reads as report-reads
 
--- src/main.rt:12:43
 slice-aggregate-read-full : tie.Need-slice-aggregate-read-full
 slice-aggregate-read-full c = search needs
 
--- src/main.rt:12:9
 read-full-requires : tie.Need-read-full-requires
 read-full-requires c κs = search needs
 
--- src/main.rt:15:24
 array-share-prefix-input : tie.Need-array-share-prefix-input
 array-share-prefix-input c = search needs
 
--- src/main.rt:15:24
 slice-aggregate-report : tie.Need-slice-aggregate-report
 slice-aggregate-report c = search needs
 
--- src/main.rt:15:39
 slice-aggregate-report-2 : tie.Need-slice-aggregate-report-2
 slice-aggregate-report-2 c = search needs
 
--- src/main.rt:15:52
 slice-aggregate-report-3 : tie.Need-slice-aggregate-report-3
 slice-aggregate-report-3 c = search needs
 
--- src/main.rt:15:17
 report-requires : tie.Need-report-requires
 report-requires c κs = search needs
 
--- src/main.rt:15:9
 value-requires : tie.Need-value-requires
 value-requires c κs = search needs
 
--- src/main.rt:16:34
 array-share-prefix-mended : tie.Need-array-share-prefix-mended
-array-share-prefix-mended c = ?
+array-share-prefix-mended c =
+    rw (c .value .ensures) (reported-at-the-front _ _ _ _ _ _ (c .before .before .before .report .ensures) .mended-fits)
 
--- src/main.rt:16:34
 slice-aggregate-write-all : tie.Need-slice-aggregate-write-all
-slice-aggregate-write-all c = ?
+slice-aggregate-write-all c = sym (length-take-le _ _ (array-share-prefix-mended (c .before)))
 
--- src/main.rt:16:5
 write-all-requires : tie.Need-write-all-requires
 write-all-requires c κs = search needs
 
--- src/main.rt:17:34
 array-share-prefix-line : tie.Need-array-share-prefix-line
-array-share-prefix-line c = ?
+array-share-prefix-line c =
+    let sized = c .before .before in
+    rw (sized .value .ensures) (reported-at-the-front _ _ _ _ _ _ (sized .before .before .before .report .ensures) .line-fits)
 
--- src/main.rt:17:34
 slice-aggregate-write-all-2 : tie.Need-slice-aggregate-write-all-2
-slice-aggregate-write-all-2 c = ?
+slice-aggregate-write-all-2 c = sym (length-take-le _ _ (array-share-prefix-line (c .before)))
 
--- src/main.rt:17:5
 write-all-requires-2 : tie.Need-write-all-requires-2
 write-all-requires-2 c κs = search needs
 
--- src/main.rt:10:1
 returns : tie.Need-returns
 returns c = search needs
 
