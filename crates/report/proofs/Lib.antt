@@ -3,3 +3,4 @@ pub mod Outcomes
 pub mod Reported
 pub mod Front
 pub mod Settled
+pub mod Example

@@ -1,10 +1,11 @@
 -- The three outcomes, each by its condition: too long, refused, mended.
 use Prim.Native.Nat.{ℕ, _+_, _*_, _≤_, _<_}
-use borrow.Author.Tests.{lt-ltb, le-ltb, eq-eqb, ne-eqb}
+use borrow.Author.Tests.{eqb-true, lt-ltb, le-ltb, eq-eqb, ne-eqb}
 use lib.Dec.{eqb, ltb}
 use lib.ListN.{length}
-use mathlib.Core.Bool.{true, false}
-use mathlib.Core.List.{List, []}
+use mathlib.Core.Bool.{Bool, true, false, cond}
+use mathlib.Core.List.{[], List}
+use mathlib.Core.Logic.{_⊎_, inl, inr}
 use mathlib.Core.Path.{_≡_, refl, sym, ap, subst, _∙_}
 use native.Mathlib.Omega.{arith}
 use Rattle.lent.proofs.Front.{puts-front}
@@ -12,15 +13,16 @@ use Rattle.lent.proofs.Left.{refused-keeps}
 use Rattle.lent.proofs.Placed.{put-none}
 use Rattle.lent.specs.Put.{Puts}
 use Rattle.mending.proofs.Kept.{kept-count}
-use Rattle.mending.proofs.Sound.{Made, made, kept-told, any-room, all-counted}
+use Rattle.mending.proofs.Sound.{mendable, mended-sound, Made, made, kept-told, any-room, all-counted}
 use Rattle.mending.proofs.Written.{mended-size}
 use Rattle.mending.specs.Answers.{numberOf, valueOf}
 use Rattle.mending.specs.Mend.{keptOf, mendedOf, mendOf, Mending}
 use Rattle.mending.specs.declared.answer.Answer.{Answer}
 use Rattle.mending.specs.declared.answer.Mended.{Mended}
-use Rattle.record.specs.Record.{mostEvents, mostBytes}
+use Rattle.record.specs.Record.{mostBytes, checkOf, mostEvents}
 use Rattle.text.specs.Text.{textOf, refusedOf}
-use Rattle.report.specs.Report.{lineOf, refusalOf, lineFor, recordFor}
+use Rattle.report.specs.Report.{lineOf, tooLong, refusalOf, lineFor, recordFor}
+use Rattle.report.specs.Theorems.{NothingOrSound}
 
 -- nothing is written
 puts-nothing : (out : List ℕ) → Puts [] 0 out 0 out
@@ -65,3 +67,14 @@ module _ (bytes mended : List ℕ) (fits : length bytes ≤ 65537) (room : mostB
         let kept : value .kept ≡ keptOf bytes = ap (λ (n : Mended). n .kept) same ∙ kept-told m in
         let size : 3 + 3 * value .kept ≡ length (mendedOf bytes) = omega (arith, kept, mended-size bytes (m .able .big) (m .able .version)) in
         (rw (short, done-so) (puts-front _ (mendedOf bytes) mended mended-left zero _ size (p .buffer)), rw (short, done-so, ← m .told, ← same) q)
+
+-- ---- nothing or a sound record
+
+pub nothing-or-sound : NothingOrSound
+unfolding recordFor
+nothing-or-sound bytes = go (tooLong bytes) (eqb (refusalOf bytes) 0) refl
+  where
+    go : (long done : Bool) → eqb (refusalOf bytes) 0 ≡ done → (cond long [] (cond done (mendedOf bytes) []) ≡ []) ⊎ (checkOf (cond long [] (cond done (mendedOf bytes) [])) ≡ 0)
+    go true done e = inl refl
+    go false false e = inl refl
+    go false true e = inr (mended-sound bytes (mendable bytes mostBytes (eqb-true _ _ e)))
