@@ -5,7 +5,8 @@ import subprocess
 import time
 
 LIMIT = 10  # seconds for one run
-PAUSE = 0.01  # seconds between two pieces of input
+START = 0.2  # seconds before the first piece of input, so that the program waits for it
+PAUSE = 0.01  # seconds between two pieces
 
 
 def pieces(given):
@@ -20,6 +21,7 @@ def pieces(given):
 
 
 def feed(stream, given):
+    time.sleep(START)
     try:
         for piece in pieces(given):
             stream.write(piece)
