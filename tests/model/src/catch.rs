@@ -2,6 +2,7 @@
 
 use crate::compare::Run;
 use crate::generator::case::{case, Case};
+use crate::model::mend::Written;
 use crate::model::rules::PAPER;
 use crate::programs::{Itself, Printed, Programs};
 use crate::wrong::{self, Wrong};
@@ -51,6 +52,12 @@ pub fn catch_wrong(run: &Run, programs: &dyn Programs) -> bool {
     all == list.len() && differing == 0
 }
 
-fn printed(programs: &(impl Programs + ?Sized), case: &Case) -> (Printed, Printed) {
-    (programs.bench(case), programs.screen(case))
+type AllPrinted = (Printed, Printed, Result<Written, String>);
+
+fn printed(programs: &(impl Programs + ?Sized), case: &Case) -> AllPrinted {
+    (
+        programs.bench(case),
+        programs.screen(case),
+        programs.mend(case),
+    )
 }

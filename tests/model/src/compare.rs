@@ -3,7 +3,7 @@
 use crate::arguments::arguments_alike;
 use crate::coverage::{Coverage, ENOUGH_RECORDS};
 use crate::difference::{hex, Compared};
-use crate::generator::case::{case, Case};
+use crate::generator::case::{case, sound, Case};
 use crate::model::rules::Rules;
 use crate::model::screen::Form;
 use crate::programs::{screen_arguments, Itself, Printed, Programs};
@@ -31,53 +31,139 @@ impl Run {
 pub fn compare(run: &Run, programs: &dyn Programs, rules: &Rules, again: &str) -> bool {
     let model = Itself { rules };
     let mut coverage = Coverage::new();
-    let (mut records, mut tables, mut pictures, mut told) = (0, 0, 0, 0);
+    let mut counts = Counts::default();
+    let mut told = 0;
     for number in run.numbers() {
         let case = case(run.seed, number);
-        let (printed, shown) = both(programs, &case);
-        let table = Compared::new(model.bench(&case), printed);
-        let picture = Compared::new(model.screen(&case), shown);
-        records += 1;
-        tables += u64::from(table.alike());
-        pictures += u64::from(picture.alike());
-        if !(table.alike() && picture.alike()) && told < TOLD {
+        let (expected, found) = (made(&model, &case), made(programs, &case));
+        counts.note(&expected, &found);
+        if expected != found && told < TOLD {
             told += 1;
             println!("record {number} of seed {} differs", run.seed);
-            println!("  record (hex): {}", hex(&case.record));
-            table.tell("bench", false);
-            let arguments = screen_arguments(&case, "ROM").join(" ");
-            picture.tell(&format!("screen {arguments}"), case.form == Form::Pbm);
+            tell(&case, expected, found);
             println!("  again: {again} --seed {} --only {number}", run.seed);
         }
         coverage.note(&case);
     }
-    let mut alike = records > 0 && tables == records && pictures == records;
+    let mut alike = counts.all_alike();
     if run.only.is_none() {
-        alike &= covered(&coverage, records);
+        alike &= covered(&coverage, &counts);
         alike &= arguments_alike(programs);
     }
-    println!("model: {records} records, {tables} tables and {pictures} pictures alike");
+    counts.print();
     alike
 }
 
-/// Both programs at once: starting them is most of a run's time.
-fn both(programs: &dyn Programs, case: &Case) -> (Printed, Printed) {
+/// What the programs make of a case.
+#[derive(PartialEq)]
+struct Made {
+    table: Printed,
+    picture: Printed,
+    mending: Mending,
+}
+
+/// What `mend` writes to its two streams, and the table of the record that it mended.
+#[derive(PartialEq)]
+struct Mending {
+    record: Printed,
+    line: Printed,
+    table: Option<Printed>,
+}
+
+/// All programs at once: starting them is most of a run's time.
+fn made(programs: &dyn Programs, case: &Case) -> Made {
     std::thread::scope(|scope| {
-        let printed = scope.spawn(|| programs.bench(case));
-        let shown = programs.screen(case);
-        (printed.join().expect("a comparison does not panic"), shown)
+        let table = scope.spawn(|| programs.bench(case));
+        let mending = scope.spawn(|| mending(programs, case));
+        Made {
+            picture: programs.screen(case),
+            table: table.join().expect("a comparison does not panic"),
+            mending: mending.join().expect("a comparison does not panic"),
+        }
     })
 }
 
-/// Prints what was met; a run of enough records has to meet every class.
-fn covered(coverage: &Coverage, records: u64) -> bool {
+/// Only what was damaged is given to `bench` again: a sound record comes out as it was.
+fn mending(programs: &dyn Programs, case: &Case) -> Mending {
+    let written = programs.mend(case);
+    let table = match &written {
+        Ok(written) if !written.record.is_empty() && !sound(&case.capture) => {
+            Some(programs.mended_table(&written.record))
+        }
+        _ => None,
+    };
+    Mending {
+        record: written.clone().map(|written| written.record),
+        line: written.map(|written| written.line),
+        table,
+    }
+}
+
+fn tell(case: &Case, expected: Made, found: Made) {
+    println!("  record (hex): {}", hex(&case.record));
+    Compared::new(expected.table, found.table).tell("bench", false);
+    let arguments = screen_arguments(case, "ROM").join(" ");
+    let image = case.form == Form::Pbm;
+    Compared::new(expected.picture, found.picture).tell(&format!("screen {arguments}"), image);
+    let (expected, found) = (expected.mending, found.mending);
+    if expected != found {
+        println!("  capture (hex): {}", hex(&case.capture));
+    }
+    Compared::new(expected.record, found.record).tell("mend, standard output", true);
+    Compared::new(expected.line, found.line).tell("mend, standard error", false);
+    if let (Some(expected), Some(found)) = (expected.table, found.table) {
+        Compared::new(expected, found).tell("bench of the mended record", false);
+    }
+}
+
+/// How many records there were, and how much of what was made of them is alike.
+#[derive(Default)]
+struct Counts {
+    records: u64,
+    tables: u64,
+    pictures: u64,
+    mendings: u64,
+    /// Damaged records that were mended and then taken by `bench`.
+    mended: u64,
+}
+
+impl Counts {
+    fn note(&mut self, expected: &Made, found: &Made) {
+        let mending = expected.mending == found.mending;
+        self.records += 1;
+        self.tables += u64::from(expected.table == found.table);
+        self.pictures += u64::from(expected.picture == found.picture);
+        self.mendings += u64::from(mending);
+        self.mended += u64::from(mending && found.mending.table.is_some());
+    }
+
+    fn all_alike(&self) -> bool {
+        let alike = [self.tables, self.pictures, self.mendings];
+        self.records > 0 && alike == [self.records; 3]
+    }
+
+    fn print(&self) {
+        println!(
+            "model: {} records, {} tables, {} pictures and {} mendings alike; {} damaged records mended",
+            self.records, self.tables, self.pictures, self.mendings, self.mended
+        );
+    }
+}
+
+/// Prints what was met; a run of enough records has to meet every class, and to mend a damaged
+/// record for every two.
+fn covered(coverage: &Coverage, counts: &Counts) -> bool {
     coverage.print();
     let missed = coverage.missed();
-    if records < ENOUGH_RECORDS {
+    if counts.records < ENOUGH_RECORDS {
         return true;
     }
     for class in &missed {
         println!("never met: {class}");
     }
-    missed.is_empty()
+    let enough = 2 * counts.mended >= counts.records;
+    if !enough {
+        println!("too few damaged records mended: {}", counts.mended);
+    }
+    missed.is_empty() && enough
 }

@@ -3,6 +3,7 @@
 use crate::generator::author::WAITS;
 use crate::generator::case::{end_of, Case, DIGITS};
 use crate::generator::damage::DAMAGES;
+use crate::model::mend::{self, Mended, MOST_CAPTURED};
 use crate::model::part::{switched_on, Half, Memory, Part};
 use crate::model::picture::{self, View};
 use crate::model::record::*;
@@ -21,8 +22,10 @@ const RANGES: [&str; 9] = [
 const KINDS: [&str; 4] = ["data write", "status read", "data read", "busy status read"];
 
 #[rustfmt::skip]
-const CLASSES: [(&str, &[&str]); 13] = [
+const CLASSES: [(&str, &[&str]); 14] = [
     ("records", &["sound", "empty record", "full record", "refused 7", "refused 8", "refused 9", "too long"]),
+    ("mendings", &["refused 7", "refused 8", "too long", "too long, version not 1", "sound", "nothing dropped, length altered", "bytes dropped, length kept", "bytes dropped, length altered",
+        "no event kept", "4096 kept", "4096 kept of more", "event cut", "events behind an ill-formed one", "events behind the length", "12291 bytes", "more than 12291 bytes", "65537 bytes"]),
     ("answers", &["0", "20", "1", "2", "3"]),
     ("instructions on eight lines", &RANGES),
     ("instructions on four lines", &RANGES),
@@ -94,6 +97,7 @@ impl Coverage {
         if let Some(damage) = case.damage {
             self.met("damages", damage);
         }
+        self.note_mending(&case.capture);
         if too_long(case.record.len()) {
             self.met("records", "too long");
             return;
@@ -108,6 +112,49 @@ impl Coverage {
                 self.note_picture(case);
             }
         }
+    }
+
+    fn note_mending(&mut self, capture: &[u8]) {
+        let group = "mendings";
+        if mend::captured_too_long(capture.len()) {
+            self.met(group, "too long");
+            let refused = mend::head_refusal(capture).is_err();
+            self.met_if(refused, group, "too long, version not 1");
+            return;
+        }
+        match mend::mend(&PAPER, capture, MOST_BYTES) {
+            Err(number) => self.met(group, format!("refused {number}")),
+            Ok(mended) => self.note_mended(capture, &mended),
+        }
+    }
+
+    fn note_mended(&mut self, capture: &[u8], mended: &Mended) {
+        let group = "mendings";
+        let class = match (mended.dropped > 0, mended.altered) {
+            (false, false) => "sound",
+            (false, true) => "nothing dropped, length altered",
+            (true, false) => "bytes dropped, length kept",
+            (true, true) => "bytes dropped, length altered",
+        };
+        self.met(group, class);
+        let (kept, end) = (mended.kept, mended.record.len());
+        let full = kept == MOST_EVENTS;
+        self.met_if(kept == 0, group, "no event kept");
+        self.met_if(full, group, "4096 kept");
+        let more = full && mend::stands(capture, end);
+        self.met_if(more, group, "4096 kept of more");
+        let cut = !full && (1..3).contains(&mended.dropped);
+        self.met_if(cut, group, "event cut");
+        let behind = !full
+            && (end..capture.len())
+                .step_by(3)
+                .any(|place| mend::stands(capture, place));
+        self.met_if(behind, group, "events behind an ill-formed one");
+        let unspoken = 2 + length(capture) < end;
+        self.met_if(unspoken, group, "events behind the length");
+        self.met_if(capture.len() == MOST_BYTES, group, "12291 bytes");
+        self.met_if(capture.len() > MOST_BYTES, group, "more than 12291 bytes");
+        self.met_if(capture.len() == MOST_CAPTURED, group, "65537 bytes");
     }
 
     fn note_events(&mut self, events: &[Event]) {

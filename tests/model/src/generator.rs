@@ -1,4 +1,5 @@
-//! The generator: from a seed and a number, one record and one view of the state it ends in.
+//! The generator: from a seed and a number, one record, one view of the state it ends in and one
+//! capture to mend.
 
 pub mod author;
 pub mod case;

@@ -18,8 +18,8 @@ use programs::{Built, Itself, Programs};
 use std::process::ExitCode;
 
 const USAGE: &str = "\
-usage: model compare BENCH SCREEN [--seed S] [--records N] [--only NUMBER] [--wrong NAME]
-       model wrong [BENCH SCREEN] [--seed S] [--records N]
+usage: model compare BENCH SCREEN MEND [--seed S] [--records N] [--only NUMBER] [--wrong NAME]
+       model wrong [BENCH SCREEN MEND] [--seed S] [--records N]
        model names";
 
 fn main() -> ExitCode {
@@ -39,17 +39,17 @@ fn command(arguments: &[String]) -> Result<bool, String> {
     let (name, rest) = arguments.split_first().ok_or(USAGE)?;
     let options = Options::new(rest)?;
     match (name.as_str(), options.programs.as_slice()) {
-        ("compare", [bench, screen]) => {
+        ("compare", [bench, screen, mend]) => {
             let rules = match &options.wrong {
                 Some(name) => &wrong::named(name).ok_or("no such wrong model")?.rules,
                 None => &PAPER,
             };
-            let again = options.again(bench, screen);
-            let programs = Built::new(bench, screen)?;
+            let programs = Built::new([bench, screen, mend])?;
+            let again = options.again();
             Ok(compare::compare(&options.run, &programs, rules, &again))
         }
-        ("wrong", [bench, screen]) => {
-            let programs = Built::new(bench, screen)?;
+        ("wrong", [bench, screen, mend]) => {
+            let programs = Built::new([bench, screen, mend])?;
             Ok(catch::catch_wrong(&options.run, &programs))
         }
         ("wrong", []) => {
@@ -106,9 +106,10 @@ impl Options {
     }
 
     /// The command that repeats one record, but for its seed and number.
-    fn again(&self, bench: &str, screen: &str) -> String {
+    fn again(&self) -> String {
         let wrong = self.wrong.iter().map(|name| format!(" --wrong {name}"));
         let wrong: String = wrong.collect();
-        format!("tests/model/run compare {bench} {screen}{wrong}")
+        let programs = self.programs.join(" ");
+        format!("tests/model/run compare {programs}{wrong}")
     }
 }

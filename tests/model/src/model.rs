@@ -1,8 +1,10 @@
-//! The model: the part, the record, the bench table and the screen's output, rule by rule.
+//! The model: the part, the record and its mending, the bench table and the screen's output, rule
+//! by rule.
 
 pub mod counter;
 pub mod halves;
 pub mod instruction;
+pub mod mend;
 pub mod part;
 pub mod picture;
 pub mod record;

@@ -1,5 +1,7 @@
 //! Tests of the model by the paper's own words: its example, P1 to P11, each refusal.
 
+mod mending;
+
 use crate::compare::{compare, Run};
 use crate::generator::case::{case, end_of};
 use crate::model::part::{switched_on, Half, Memory, Part};

@@ -1,6 +1,8 @@
-//! The two programs under test: the built ones, or the model itself in their place.
+//! The three programs under test: the built ones, or the model itself in their place.
 
 use crate::generator::case::Case;
+use crate::model::mend::Written;
+use crate::model::record::Event;
 use crate::model::rules::Rules;
 use crate::model::screen::{arguments, screen, Form};
 use crate::model::table::bench;
@@ -17,6 +19,9 @@ pub type Printed = Result<Vec<u8>, String>;
 pub trait Programs: Sync {
     fn bench(&self, case: &Case) -> Printed;
     fn screen(&self, case: &Case) -> Printed;
+    fn mend(&self, case: &Case) -> Result<Written, String>;
+    /// What `bench` prints for a record that was mended.
+    fn mended_table(&self, record: &[u8]) -> Printed;
     /// Lines that `screen` prints, to whichever stream, for a list of arguments and no record.
     fn screen_lines(&self, arguments: &[String]) -> Result<usize, String>;
 }
@@ -35,6 +40,19 @@ impl Programs for Itself<'_> {
         Ok(screen(self.rules, &case.record, &case.view, case.form))
     }
 
+    fn mend(&self, case: &Case) -> Result<Written, String> {
+        Ok((self.rules.written)(self.rules, &case.capture))
+    }
+
+    /// The table of the events, with no look at the head: a mended record is never refused.
+    fn mended_table(&self, record: &[u8]) -> Printed {
+        let events: Vec<Event> = record[3..]
+            .chunks_exact(3)
+            .map(|bytes| (self.rules.event)([bytes[0], bytes[1], bytes[2]]))
+            .collect();
+        Ok((self.rules.table)(self.rules, &events).into_bytes())
+    }
+
     fn screen_lines(&self, list: &[String]) -> Result<usize, String> {
         let unreadable = |rom: &str| fs::read(rom).is_err();
         match arguments(list) {
@@ -48,12 +66,13 @@ impl Programs for Itself<'_> {
 pub struct Built {
     bench: String,
     screen: String,
+    mend: String,
     folder: PathBuf,
 }
 
 impl Built {
-    pub fn new(bench: &str, screen: &str) -> Result<Built, String> {
-        for program in [bench, screen] {
+    pub fn new([bench, screen, mend]: [&str; 3]) -> Result<Built, String> {
+        for program in [bench, screen, mend] {
             fs::metadata(program).map_err(|error| format!("{program}: {error}"))?;
         }
         let name = format!("screen-model-{}", std::process::id());
@@ -62,12 +81,19 @@ impl Built {
         Ok(Built {
             bench: bench.to_string(),
             screen: screen.to_string(),
+            mend: mend.to_string(),
             folder,
         })
     }
 
     fn rom(&self) -> PathBuf {
         self.folder.join("rom")
+    }
+
+    fn table(&self, record: &[u8], pause: Option<usize>) -> Printed {
+        let output = run(&self.bench, &[], record, pause)?;
+        ended_well(&output)?;
+        Ok(output.stdout)
     }
 }
 
@@ -79,14 +105,8 @@ impl Drop for Built {
 }
 
 impl Programs for Built {
-    /// The bench program ends with status 0.
     fn bench(&self, case: &Case) -> Printed {
-        let output = run(&self.bench, &[], &case.record, case.pause)?;
-        if output.status.success() {
-            Ok(output.stdout)
-        } else {
-            Err(format!("{}", output.status))
-        }
+        self.table(&case.record, case.pause)
     }
 
     fn screen(&self, case: &Case) -> Printed {
@@ -96,6 +116,19 @@ impl Programs for Built {
         let output = run(&self.screen, &arguments, &case.record, case.pause)?;
         ended(&output)?;
         Ok(output.stdout)
+    }
+
+    fn mend(&self, case: &Case) -> Result<Written, String> {
+        let output = run(&self.mend, &[], &case.capture, case.pause)?;
+        ended_well(&output)?;
+        Ok(Written {
+            record: output.stdout,
+            line: output.stderr,
+        })
+    }
+
+    fn mended_table(&self, record: &[u8]) -> Printed {
+        self.table(record, None)
     }
 
     fn screen_lines(&self, arguments: &[String]) -> Result<usize, String> {
@@ -116,6 +149,14 @@ pub fn screen_arguments(case: &Case, rom: &str) -> Vec<String> {
         arguments.push("pbm".into());
     }
     arguments
+}
+
+/// Bench and mend end with status 0.
+fn ended_well(output: &Output) -> Result<(), String> {
+    match output.status.success() {
+        true => Ok(()),
+        false => Err(format!("{}", output.status)),
+    }
 }
 
 /// A program ended by itself, with whatever status.
@@ -140,7 +181,7 @@ fn run(
             .stderr(Stdio::piped())
             .spawn()?;
         let mut stdin = child.stdin.take().expect("standard input is a pipe");
-        let (first, second) = input.split_at(pause.unwrap_or(input.len()));
+        let (first, second) = input.split_at(pause.unwrap_or(input.len()).min(input.len()));
         give(&mut stdin, first)?;
         if pause.is_some() {
             sleep(Duration::from_millis(2));

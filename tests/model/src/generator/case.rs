@@ -19,6 +19,8 @@ pub struct Case {
     pub pause: Option<usize>,
     pub view: View,
     pub form: Form,
+    /// What is mended: the record, or a sound one damaged.
+    pub capture: Vec<u8>,
 }
 
 /// The case of a seed with this number.
@@ -42,10 +44,24 @@ pub fn case(seed: u64, number: u64) -> Case {
             dark: random.percent(50),
         },
         form: random.pick(&[Form::Text, Form::Pbm]),
+        capture: capture(random, &record, damage.is_some()),
         record,
         damage,
         pause,
     }
+}
+
+/// So many sound records are damaged that of all captures some seven in ten are.
+fn capture(random: &mut Random, record: &[u8], damaged: bool) -> Vec<u8> {
+    let mut capture = record.to_vec();
+    if !damaged && random.percent(60) {
+        damage::damage(random, &mut capture);
+    }
+    capture
+}
+
+pub fn sound(record: &[u8]) -> bool {
+    record::events(&PAPER, record).is_ok()
 }
 
 /// The part that a sound record ends in; switched on for another.

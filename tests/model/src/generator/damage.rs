@@ -9,16 +9,18 @@ use crate::model::record::{record, MOST_BYTES, MOST_EVENTS};
 
 type Damage = fn(&mut Random, &mut Vec<u8>);
 
-pub const DAMAGES: [(&str, Damage); 16] = [
+pub const DAMAGES: [(&str, Damage); 18] = [
     ("empty input", |_, record| record.clear()),
     ("too short", too_short),
     ("length one more", |_, record| change_length(record, 1)),
     ("length one less", |_, record| change_length(record, -1)),
     ("length by 256", length_by_256),
     ("length any", length_any),
+    ("length short of events", length_short_of_events),
     ("length little-endian", |_, record| record.swap(0, 1)),
     ("version", version),
     ("cut off", cut_off),
+    ("cut anywhere", cut_anywhere),
     ("trailing bytes", trailing_bytes),
     ("not whole events", not_whole_events),
     ("kind", kind),
@@ -32,22 +34,31 @@ pub const DAMAGES: [(&str, Damage); 16] = [
 pub fn damaged(random: &mut Random) -> (Vec<u8>, &'static str) {
     let room = random.pick(&[0, 1, 2, 25, 40, 85, MOST_EVENTS]);
     let mut record = record(&author::events(random, room));
+    let name = damage(random, &mut record);
+    (record, name)
+}
+
+/// Damages a sound record, and gives the name of the damage.
+pub fn damage(random: &mut Random, record: &mut Vec<u8>) -> &'static str {
     if random.percent(15) {
-        let (name, damage) = random.pick(&DAMAGES[2..14]);
-        damage(random, &mut record);
+        let (name, damage) = random.pick(&DAMAGES[2..16]);
+        damage(random, record);
         if record.len() < 3 {
-            return (record, name);
+            return name;
         }
     }
     let (name, damage) = random.pick(&DAMAGES);
-    damage(random, &mut record);
-    (record, name)
+    damage(random, record);
+    name
+}
+
+fn put_length(record: &mut [u8], length: usize) {
+    record[..2].copy_from_slice(&(length as u16).to_be_bytes());
 }
 
 /// Makes the length agree with the bytes there.
 fn mend_length(record: &mut [u8]) {
-    let length = (record.len() - 2) as u16;
-    record[..2].copy_from_slice(&length.to_be_bytes());
+    put_length(record, record.len() - 2);
 }
 
 fn change_length(record: &mut [u8], difference: i32) {
@@ -70,8 +81,16 @@ fn length_by_256(random: &mut Random, record: &mut Vec<u8>) {
 }
 
 fn length_any(random: &mut Random, record: &mut Vec<u8>) {
-    let bytes = random.bytes(2);
-    record[..2].copy_from_slice(&bytes);
+    let any = random.below(65_536);
+    let length = random.pick(&[0, 0xFFFF, any, any]);
+    put_length(record, length);
+}
+
+/// A length that ends behind an event, before the last.
+fn length_short_of_events(random: &mut Random, record: &mut Vec<u8>) {
+    let events = record.len() / 3 - 1;
+    let spoken_of = random.below(events.max(1));
+    put_length(record, 1 + 3 * spoken_of);
 }
 
 fn version(random: &mut Random, record: &mut Vec<u8>) {
@@ -82,6 +101,12 @@ fn version(random: &mut Random, record: &mut Vec<u8>) {
 fn cut_off(random: &mut Random, record: &mut Vec<u8>) {
     let bytes = random.pick(&[1, 2, 3]);
     let kept = record.len().saturating_sub(bytes);
+    record.truncate(kept);
+}
+
+/// The cable pulled at any moment behind the head.
+fn cut_anywhere(random: &mut Random, record: &mut Vec<u8>) {
+    let kept = random.between(3, record.len());
     record.truncate(kept);
 }
 
@@ -150,13 +175,22 @@ fn too_long(random: &mut Random, record: &mut Vec<u8>) {
         MOST_BYTES + 3,
         16_384,
         65_537,
+        65_537,
+        65_538,
         65_538,
         70_000,
         any,
     ]);
-    record.resize(length, 0);
-    if random.percent(80) {
-        mend_length(record);
+    // Three bytes of 0 are an event, three of FF are none.
+    let filling = random.pick(&[0x00, 0x00, 0x00, 0xFF]);
+    record.resize(length, filling);
+    match random.below(5) {
+        0 => {}
+        1 => put_length(record, MOST_BYTES - 2),
+        _ => mend_length(record),
+    }
+    if random.percent(30) {
+        version(random, record);
     }
 }
 

@@ -3,6 +3,7 @@
 use super::counter::*;
 use super::halves::*;
 use super::instruction::*;
+use super::mend::*;
 use super::part::*;
 use super::picture::*;
 use super::record::*;
@@ -59,6 +60,18 @@ pub struct Rules {
     pub well_formed: fn(Event) -> bool,
     pub events: fn(&Rules, &[u8]) -> Result<Vec<Event>, u8>,
 
+    pub head_refusal: fn(&[u8]) -> Result<(), u8>,
+    pub stands: fn(&[u8], usize) -> bool,
+    pub kept: fn(&Rules, &[u8]) -> usize,
+    pub room_needed: fn(&[u8], usize) -> usize,
+    pub dropped: fn(&[u8], usize) -> usize,
+    pub altered: fn(&[u8], usize) -> bool,
+    pub new_length: fn(usize) -> [u8; 2],
+    pub mended_record: fn(&Rules, &[u8], usize) -> Vec<u8>,
+    pub mend: fn(&Rules, &[u8], usize) -> Result<Mended, u8>,
+    pub captured_too_long: fn(usize) -> bool,
+    pub written: fn(&Rules, &[u8]) -> Written,
+
     pub table: fn(&Rules, &[Event]) -> String,
     pub table_line: fn(usize, Event, Outcome) -> String,
     pub dot_lines: fn(&Rules, &Part, &View, &[u8]) -> DotLines,
@@ -108,6 +121,17 @@ pub const PAPER: Rules = Rules {
     event,
     well_formed,
     events,
+    head_refusal,
+    stands,
+    kept,
+    room_needed,
+    dropped,
+    altered,
+    new_length,
+    mended_record,
+    mend,
+    captured_too_long,
+    written,
     table,
     table_line,
     dot_lines,
