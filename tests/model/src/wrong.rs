@@ -3,6 +3,7 @@
 mod counters;
 mod halves;
 mod instructions;
+mod mends;
 mod pictures;
 mod records;
 
@@ -29,6 +30,7 @@ pub fn all() -> Vec<&'static Wrong> {
         halves::LIST,
         pictures::LIST,
         records::LIST,
+        mends::LIST,
     ];
     lists.into_iter().flatten().collect()
 }
