@@ -12,8 +12,9 @@ use Rattle.lent.proofs.Front.{puts-front}
 use Rattle.lent.proofs.Left.{refused-keeps}
 use Rattle.lent.proofs.Placed.{put-none}
 use Rattle.lent.specs.Put.{Puts}
-use Rattle.mending.proofs.Kept.{kept-count}
-use Rattle.mending.proofs.Sound.{mendable, mended-sound, Made, made, kept-told, any-room, all-counted}
+use Rattle.mending.proofs.Answers.{any-room, mendable}
+use Rattle.mending.proofs.Kept.{kept-few}
+use Rattle.mending.proofs.Sound.{mended-sound, Made, made, kept-told, all-counted}
 use Rattle.mending.proofs.Written.{mended-size}
 use Rattle.mending.specs.Answers.{numberOf, valueOf}
 use Rattle.mending.specs.Mend.{keptOf, mendedOf, mendOf, Mending}
@@ -58,7 +59,7 @@ module _ (bytes mended : List ℕ) (fits : length bytes ≤ 65537) (room : mostB
     m = made bytes mended r mended-left p zero
 
     pub told-fits : (value .kept ≤ mostEvents) × (value .dropped < 65536)
-    told-fits = rw same (omega (arith, kept-told m, kept-count bytes .0), omega (arith, all-counted bytes mended r mended-left p (sym told ∙ done)))
+    told-fits = rw same (omega (arith, kept-told m, kept-few bytes), omega (arith, all-counted bytes mended r mended-left p (sym told ∙ done)))
 
     pub both-mended : (line : List ℕ) (said : ℕ) (line-left : List ℕ) → Puts (lineOf value) 0 line said line-left → Both bytes mended line (3 + 3 * value .kept) said mended-left line-left
     unfolding lineFor recordFor
