@@ -9,8 +9,8 @@ pub use answer::Answer;
 pub use answer::Sizes;
 use written::put_both;
 
-// A byte more than a length field can speak of is too long.
-pub const MOST_INPUT: usize = 65537;
+// The bytes that a length field can speak of: its own two, and the most that it counts.
+pub const MOST_INPUT: usize = 2 + 65535;
 
 pub const MOST_LINE: usize = line::MOST_BYTES;
 
