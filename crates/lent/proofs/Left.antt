@@ -1,12 +1,13 @@
 -- Laws of what a call leaves in a buffer, where it is refused and where it is not.
-use Prim.Native.Nat.{ℕ}
+use Prim.Native.Nat.{ℕ, _≤_}
 use borrow.Author.Tests.{eq-eqb}
 use lib.Dec.{eqb}
-use lib.ListN.{length, take, drop}
+use lib.ListN.{length, take, drop, length-take}
 use lib.Seq.{take-at, drop-at}
 use mathlib.Core.Bool.{false}
 use mathlib.Core.List.{List, _++_}
 use mathlib.Core.Path.{_≡_, sym, ap, _∙_}
+use native.Mathlib.Omega.{arith}
 use Rattle.lent.specs.Buffer.{over, unlessRefused}
 
 -- ---- new bytes at the front
@@ -42,3 +43,9 @@ pub front-and-rest : (number n : ℕ) (new out left : List ℕ) → left ≡ unl
 front-and-rest number n new out left e done size =
     let whole : left ≡ over new out = e ∙ sym (done-writes number new out done) in
     (ap (take n) whole ∙ over-front new out n size, ap (drop n) whole ∙ over-rest new out n size)
+
+-- so that as many bytes as it says are there, and are those
+pub at-front : (number size : ℕ) (new out left : List ℕ) → left ≡ unlessRefused number new out → number ≡ 0 → size ≡ length new → (size ≤ length left) × (take size left ≡ new)
+at-front number size new out left e done counted =
+    let front : take size left ≡ new = front-and-rest number size new out left e done (sym counted) .0 in
+    (omega (arith, length-take size left, ap length front), front)

@@ -1,14 +1,14 @@
 -- What each answer leaves, when it is given, and where the text stands.
 use Prim.Native.Nat.{ℕ, _≤_, _<_}
 use borrow.Author.Tests.{le-ltb, lt-ltb}
-use lib.ListN.{length, length-take, take}
+use lib.ListN.{length, take}
 use mathlib.Core.List.{List}
-use mathlib.Core.Path.{_≡_, ap, refl, sym, _∙_}
+use mathlib.Core.Path.{_≡_, sym, _∙_}
 use native.Mathlib.Omega.{arith}
 use Rattle.condition.proofs.First.{first-given-exactly}
 use Rattle.condition.specs.First.{firstOf, absent, distinct}
 use Rattle.lent.proofs.Front.{front-written}
-use Rattle.lent.proofs.Left.{refused-keeps, front-and-rest}
+use Rattle.lent.proofs.Left.{refused-keeps, at-front}
 use Rattle.lent.specs.Put.{Puts}
 use Rattle.printing.specs.Answers.{numberOf, valueOf, refusals, answerFor, Printed}
 use Rattle.printing.specs.Theorems.{PrintedGivenExactly, AtTheFront}
@@ -29,23 +29,16 @@ module _ (most : ℕ) (text out : List ℕ) where
       let written = front-written (answerFor most out) _ out left done n p in
       record { number = sym done; value = rw done (written .0); buffer = written .1 }
 
-  module _ (left : List ℕ) where
-    front : (r : Answer) → Printed most text out r left → numberOf r ≡ 0 → take (valueOf r) left ≡ text
-    front r p zero =
-        let done : answerFor most out ≡ 0 = sym (p .number) ∙ zero in
-        let counted : valueOf r ≡ length text = p .value ∙ rw done in
-        front-and-rest (answerFor most out) (valueOf r) _ out left (p .buffer) done (sym counted) .0
-
-    fits : (r : Answer) → Printed most text out r left → valueOf r ≤ length left
-    fits (Done size) p =
-        let done : answerFor most out ≡ 0 = sym (p .number) in
-        let counted : size ≡ length text = p .value ∙ rw done in
-        omega (arith, length-take size left, ap length (front (Done size) p refl))
-    fits ShortBuffer p = omega arith
+  front : (r : Answer) (left : List ℕ) → Printed most text out r left → (valueOf r ≤ length left) × (numberOf r ≡ 0 → take (valueOf r) left ≡ text)
+  front (Done size) left p =
+      let done : answerFor most out ≡ 0 = sym (p .number) in
+      let there = at-front (answerFor most out) size text out left (p .buffer) done (p .value ∙ rw done) in
+      (there .0, λ z. there .1)
+  front ShortBuffer left p = (omega arith, λ z. absurd (omega arith))
 
 pub printed-given-exactly : PrintedGivenExactly
 unfolding answerFor absent distinct
 printed-given-exactly most text out r left p = rw (p .number) (first-given-exactly (refusals most out) 0 tt)
 
 pub at-the-front : AtTheFront
-at-the-front most text out r left p = (fits most text out left r p, front most text out left r p)
+at-the-front most text out r left p = front most text out r left p

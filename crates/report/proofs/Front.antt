@@ -1,21 +1,12 @@
 -- The record and the line stand at the front of their buffers.
-use Prim.Native.Nat.{ℕ, _≤_}
-use lib.ListN.{length, length-take, take}
-use mathlib.Core.List.{List}
+use lib.ListN.{length}
 use mathlib.Core.Path.{_≡_, ap, sym, _∙_}
 use native.Mathlib.Omega.{arith}
-use Rattle.lent.proofs.Left.{front-and-rest}
-use Rattle.lent.specs.Buffer.{unlessRefused}
+use Rattle.lent.proofs.Left.{at-front}
 use Rattle.report.specs.Report.{recordFor, lineFor, answerFor}
 use Rattle.report.specs.Theorems.{ReportedAtTheFront}
 use Rattle.report.specs.declared.answer.Answer.the-variants.{Done, ShortBuffer}
 use Rattle.report.specs.declared.answer.Sizes.{Sizes}
-
--- one of them
-at-front : (number size : ℕ) (new out left : List ℕ) → left ≡ unlessRefused number new out → number ≡ 0 → size ≡ length new → (size ≤ length left) × (take size left ≡ new)
-at-front number size new out left e done counted =
-    let front : take size left ≡ new = front-and-rest number size new out left e done (sym counted) .0 in
-    (omega (arith, length-take size left, ap length front), front)
 
 pub reported-at-the-front : ReportedAtTheFront
 reported-at-the-front bytes mended line (Done sizes) mended-left line-left p =

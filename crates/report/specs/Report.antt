@@ -52,12 +52,12 @@ abbrev pub numberOf : Answer → ℕ
 numberOf (Done sizes) = 0
 numberOf ShortBuffer = 6
 
-abbrev pub nothing : Sizes
-nothing = record { mended = 0; line = 0 }
+abbrev pub noBytes : Sizes
+noBytes = record { mended = 0; line = 0 }
 
 abbrev pub valueOf : Answer → Sizes
 valueOf (Done sizes) = sizes
-valueOf ShortBuffer = nothing
+valueOf ShortBuffer = noBytes
 
 -- 6: a lent buffer has no room for the longest of its kind
 abbrev pub refusals : (mended line : ℕ) → List Rule
@@ -69,6 +69,6 @@ answerFor mended line = firstOf (refusals mended line) 0
 -- what `report` promises, of both buffers
 pub record Reported (bytes mended line : List ℕ) (r : Answer) (mended-left line-left : List ℕ) : Type 0 where
   pub number : numberOf r ≡ answerFor (length mended) (length line)
-  pub value : valueOf r ≡ cond (eqb (answerFor (length mended) (length line)) 0) (record { mended = length (recordFor bytes); line = length (lineFor bytes) }) nothing
+  pub value : valueOf r ≡ cond (eqb (answerFor (length mended) (length line)) 0) (record { mended = length (recordFor bytes); line = length (lineFor bytes) }) noBytes
   pub mended-buffer : mended-left ≡ unlessRefused (answerFor (length mended) (length line)) (recordFor bytes) mended
   pub line-buffer : line-left ≡ unlessRefused (answerFor (length mended) (length line)) (lineFor bytes) line
