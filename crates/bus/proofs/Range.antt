@@ -65,7 +65,7 @@ unfolding EffectPlaced rowOf rearranged hasCounter hasCharacter
 effect-placed n r p =
     of-decoded (EffectPlaced r) n (record {
       nothing = λ t. p;
-      clear = λ e t. home-placed r;
+      clear = λ e t. record { counter = home-placed r .counter; shift = home-placed r .shift };
       home = λ t. home-placed r;
       entry = λ e t. record { counter = p .counter; shift = p .shift };
       lights = λ l t. record { counter = p .counter; shift = p .shift };

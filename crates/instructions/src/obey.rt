@@ -8,6 +8,7 @@ use super::instruction::Instruction;
 use controller::Controller;
 use controller::answer::Answer;
 use controller::effect::Effect;
+use controller::registers::Entry;
 use controller::registers::Mode;
 use controller::registers::Registers;
 use counters::LineMode;
@@ -92,7 +93,11 @@ fn row_of(registers: Registers, instruction: Instruction) -> Obeyed
     match instruction {
         Instruction::Nothing => {}
         Instruction::Clear => {
-            after = homed(registers);
+            let entry = Entry {
+                up: true,
+                ..registers.entry
+            };
+            after = homed(Registers { entry, ..registers });
             ticks = Controller::LONG;
         }
         Instruction::Home => {

@@ -1,4 +1,4 @@
-//! Tests of the model by the paper's own words: its example, P1 to P11, each refusal.
+//! Tests of the model by the paper's own words: its example, P1 to P11, each refusal; and by what 02, 3/12 says of Clear.
 
 mod mending;
 
@@ -167,6 +167,20 @@ fn p11_an_instruction_half_ends_a_data_half() {
     let cells = part.display;
     assert_eq!(instruct(&mut part, 0x40), 2);
     assert_eq!((part.display, part.half), (cells, None));
+}
+
+#[test]
+fn clear_sets_the_direction_to_up_and_keeps_shift_on_write() {
+    for (entry, shift) in [(0x04, 0), (0x05, 2), (0x06, 0), (0x07, 2)] {
+        let mut part = two_lines();
+        instruct(&mut part, entry);
+        assert_eq!(instruct(&mut part, 0x01), 0);
+        for byte in [0x41, 0x42] {
+            assert_eq!(give(&mut part, Transfer::Data(byte)), DONE);
+        }
+        assert_eq!(part.display[..2], [0x41, 0x42]);
+        assert_eq!((part.address, part.shift), (0x02, shift));
+    }
 }
 
 #[test]

@@ -74,6 +74,7 @@ pub fn clear(part: &mut Part) {
     part.display = [0x20; 80];
     point(part, Memory::Display, 0x00);
     part.shift = 0;
+    part.up = true;
 }
 
 pub fn home(part: &mut Part) {

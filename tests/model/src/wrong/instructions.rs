@@ -66,11 +66,22 @@ pub const LIST: &[Wrong] = &[
         },
     },
     Wrong {
-        name: "clear-sets-direction",
+        name: "clear-leaves-direction",
+        rules: Rules {
+            clear: |part| {
+                let up = part.up;
+                clear(part);
+                part.up = up;
+            },
+            ..PAPER
+        },
+    },
+    Wrong {
+        name: "clear-ends-shift-on-write",
         rules: Rules {
             clear: |part| {
                 clear(part);
-                part.up = true;
+                part.shift_on_write = false;
             },
             ..PAPER
         },

@@ -72,7 +72,7 @@ returns c = does _ (c .enum-told .given .1) refl refl refl
 
 returns-2 : tie.Need-returns-2
 unfolding rowOf
-returns-2 c = does _ (c .before .enum-told2 .given .1) refl (c .homed .ensures) refl
+returns-2 c = does _ (c .before .before .before .before .enum-told2 .given .1) refl (c .homed .ensures) refl
 
 returns-3 : tie.Need-returns-3
 unfolding rowOf
