@@ -82,7 +82,7 @@ row r t = record { effect = r; change = Change.Nothing; ticks = t; lacks = false
 unfoldable pub rowOf : Instruction → Registers → Row
 -- 00: none (ours)
 rowOf Nothing r = row r 10
--- 01: clear: all display cells 20 hex, address 00 of display memory, shift 0; it also sets the direction to up and keeps shift on write (3/12)
+-- 01: clear: all display cells 20 hex, address 00 of display memory, shift 0; it also sets the direction to up and keeps shift on write (request 3/12)
 rowOf Clear r =
     record { effect = entered (homed r) (record { up = true; shifts = r .entry .shifts }); change = Change.Clear; ticks = 410; lacks = false }
 -- 02-03: home: address 00 of display memory, shift 0
