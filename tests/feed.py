@@ -31,9 +31,9 @@ def feed(stream, given):
         pass  # A program may stop reading once it knows that the input is too long.
 
 
-def run(program, given, in_pieces, errors=None):
+def run(program, given, in_pieces, errors=None, words=()):
     """Standard output, standard error where `errors` is a pipe, and the status; None if it does not end in time."""
-    process = subprocess.Popen([program], stdin=subprocess.PIPE, stdout=subprocess.PIPE, stderr=errors)
+    process = subprocess.Popen([program, *words], stdin=subprocess.PIPE, stdout=subprocess.PIPE, stderr=errors)
     try:
         if in_pieces:
             feed(process.stdin, given)
