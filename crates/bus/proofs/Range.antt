@@ -134,7 +134,7 @@ pub fresh-in-range : (d m : List ℕ) → T (inRange (freshWith d m .registers))
 unfolding freshWith freshRegisters halfFits
 fresh-in-range d m = test freshRegisters (record { counter = home-exists One; shift = no-shift-exists One; half = tt; busy = lit≤ tt })
 
-events-kept : (es : List Event) (c : Controller) → T (inRange (c .registers)) → T (inRange (afterEvents es c .registers))
+pub events-kept : (es : List Event) (c : Controller) → T (inRange (c .registers)) → T (inRange (afterEvents es c .registers))
 unfolding afterEvents
 events-kept [] c t = t
 events-kept (e ∷ es) c t = events-kept es (toldBy e c .controller) (range-kept e c t)

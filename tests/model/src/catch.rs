@@ -2,62 +2,121 @@
 
 use crate::compare::Run;
 use crate::generator::case::{case, Case};
+use crate::generator::script::{script, Script};
 use crate::model::mend::Written;
 use crate::model::rules::PAPER;
 use crate::programs::{Itself, Printed, Programs};
 use crate::wrong::{self, Wrong};
+use std::ops::Range;
 
-/// A wrong model and the first record that caught it.
+/// A wrong model and the first record or script that caught it.
 struct Caught {
     wrong: &'static Wrong,
     first: Option<u64>,
 }
 
-/// Runs every wrong model beside the programs until a record catches it: one where the programs
-/// print what the paper's rules say and the wrong model does not.
+/// Tries the wrong models of the panel on scripts, and all others on records.
 pub fn catch_wrong(run: &Run, programs: &dyn Programs) -> bool {
-    let mut list: Vec<Caught> = wrong::all()
-        .into_iter()
-        .map(|wrong| Caught { wrong, first: None })
-        .collect();
-    let (mut records, mut differing) = (0, 0);
-    for number in run.numbers() {
-        let case = case(run.seed, number);
-        let right = printed(&Itself { rules: &PAPER }, &case);
-        if printed(programs, &case) != right {
-            println!("record {number} of seed {} differs: see compare", run.seed);
-            differing += 1;
-            continue;
-        }
-        records += 1;
-        for caught in list.iter_mut().filter(|caught| caught.first.is_none()) {
-            let rules = &caught.wrong.rules;
-            if printed(&Itself { rules }, &case) != right {
-                caught.first = Some(number);
+    let on_records = Trial {
+        what: "record",
+        seed: run.seed,
+        numbers: run.records(),
+        input: case,
+        printed,
+    };
+    let on_scripts = Trial {
+        what: "script",
+        seed: run.seed,
+        numbers: run.scripts(),
+        input: script,
+        printed: called,
+    };
+    let tried = [
+        on_records.try_all(programs, wrong::of_records()),
+        on_scripts.try_all(programs, wrong::of_scripts()),
+    ];
+    let sum = |count: fn(&Tried) -> usize| -> usize { tried.iter().map(count).sum() };
+    println!(
+        "model: {} of {} wrong models caught in {} records and {} scripts",
+        sum(|tried| tried.caught),
+        sum(|tried| tried.wrong),
+        tried[0].alike,
+        tried[1].alike
+    );
+    tried
+        .iter()
+        .all(|tried| tried.caught == tried.wrong && tried.differing == 0)
+}
+
+/// Inputs of a seed, and what programs print for one.
+struct Trial<Input, Output> {
+    what: &'static str,
+    seed: u64,
+    numbers: Range<u64>,
+    input: fn(u64, u64) -> Input,
+    printed: fn(&dyn Programs, &Input) -> Output,
+}
+
+/// How many wrong models were tried and caught; on how many inputs the programs were as the paper
+/// says, and on how many not.
+#[derive(Default)]
+struct Tried {
+    wrong: usize,
+    caught: usize,
+    alike: usize,
+    differing: usize,
+}
+
+impl<Input, Output: PartialEq> Trial<Input, Output> {
+    /// Runs every wrong model beside the programs until an input catches it: one where the programs
+    /// print what the paper's rules say and the wrong model does not.
+    fn try_all(self, programs: &dyn Programs, wrong: Vec<&'static Wrong>) -> Tried {
+        let (what, seed) = (self.what, self.seed);
+        let mut list: Vec<Caught> = wrong
+            .into_iter()
+            .map(|wrong| Caught { wrong, first: None })
+            .collect();
+        let mut tried = Tried::default();
+        for number in self.numbers {
+            let input = (self.input)(seed, number);
+            let right = (self.printed)(&Itself { rules: &PAPER }, &input);
+            if (self.printed)(programs, &input) != right {
+                println!("{what} {number} of seed {seed} differs: see compare");
+                tried.differing += 1;
+                continue;
+            }
+            tried.alike += 1;
+            for caught in list.iter_mut().filter(|caught| caught.first.is_none()) {
+                let rules = &caught.wrong.rules;
+                if (self.printed)(&Itself { rules }, &input) != right {
+                    caught.first = Some(number);
+                }
             }
         }
-    }
-    for caught in &list {
-        let name = caught.wrong.name;
-        match caught.first {
-            Some(first) => println!("{name}: caught at record {first}"),
-            None => println!("{name}: NOT CAUGHT"),
+        for caught in &list {
+            let name = caught.wrong.name;
+            match caught.first {
+                Some(first) => println!("{name}: caught at {what} {first}"),
+                None => println!("{name}: NOT CAUGHT"),
+            }
         }
+        tried.wrong = list.len();
+        tried.caught = list.iter().filter(|caught| caught.first.is_some()).count();
+        tried
     }
-    let all = list.iter().filter(|caught| caught.first.is_some()).count();
-    println!(
-        "model: {all} of {} wrong models caught in {records} records",
-        list.len()
-    );
-    all == list.len() && differing == 0
 }
 
 type AllPrinted = (Printed, Printed, Result<Written, String>);
 
-fn printed(programs: &(impl Programs + ?Sized), case: &Case) -> AllPrinted {
+fn printed(programs: &dyn Programs, case: &Case) -> AllPrinted {
     (
         programs.bench(case),
         programs.screen(case),
         programs.mend(case),
     )
+}
+
+fn called(programs: &dyn Programs, script: &Script) -> Vec<Result<Written, String>> {
+    let calls = script.calls.iter();
+    calls.map(|given| programs.panel(given)).collect()
 }

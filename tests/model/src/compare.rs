@@ -1,41 +1,83 @@
 //! The comparison of the programs with the model, byte by byte.
 
+mod scripts;
+
 use crate::arguments::arguments_alike;
-use crate::coverage::{Coverage, ENOUGH_RECORDS};
+use crate::coverage::{Coverage, ENOUGH_RECORDS, ENOUGH_SCRIPTS};
 use crate::difference::{hex, Compared};
 use crate::generator::case::{case, sound, Case};
 use crate::model::rules::Rules;
 use crate::model::screen::Form;
 use crate::programs::{screen_arguments, Itself, Printed, Programs};
+use std::fmt;
+use std::ops::Range;
 
 /// So many differences are told in full; all are counted.
 const TOLD: u64 = 5;
 
-/// A run's seed and its numbers.
+/// A run's seed and how many records and scripts it has.
 pub struct Run {
     pub seed: u64,
     pub records: u64,
-    pub only: Option<u64>,
+    pub scripts: u64,
+    pub only: Option<Only>,
+}
+
+/// One record or one script alone.
+#[derive(Clone, Copy)]
+pub enum Only {
+    Record(u64),
+    Script(u64),
 }
 
 impl Run {
-    pub fn numbers(&self) -> std::ops::RangeInclusive<u64> {
+    pub fn records(&self) -> Range<u64> {
         match self.only {
-            Some(number) => number..=number,
-            None => 1..=self.records,
+            None => 1..self.records + 1,
+            Some(Only::Record(number)) => number..number + 1,
+            Some(Only::Script(_)) => 0..0,
+        }
+    }
+
+    pub fn scripts(&self) -> Range<u64> {
+        match self.only {
+            None => 1..self.scripts + 1,
+            Some(Only::Record(_)) => 0..0,
+            Some(Only::Script(number)) => number..number + 1,
         }
     }
 }
 
-/// Compares a run with the model of these rules; `again` is the command that repeats one record.
+/// Compares a run with the model of these rules; `again` is the command that repeats one record or
+/// script.
 pub fn compare(run: &Run, programs: &dyn Programs, rules: &Rules, again: &str) -> bool {
     let model = Itself { rules };
-    let mut coverage = Coverage::new();
+    let (counts, coverage) = compare_records(run, programs, &model, again);
+    let (scripts, script_coverage) = scripts::compare_scripts(run, programs, &model, again);
+    let mut alike = counts.all_alike() && scripts.all_alike();
+    alike &= counts.records + scripts.scripts > 0;
+    if run.only.is_none() {
+        alike &= coverage.covered(counts.records >= ENOUGH_RECORDS);
+        alike &= script_coverage.covered(scripts.scripts >= ENOUGH_SCRIPTS);
+        alike &= counts.enough_mended();
+        alike &= arguments_alike(programs);
+    }
+    println!("model: {counts}; {scripts}");
+    alike
+}
+
+fn compare_records(
+    run: &Run,
+    programs: &dyn Programs,
+    model: &Itself,
+    again: &str,
+) -> (Counts, Coverage) {
+    let mut coverage = Coverage::of_records();
     let mut counts = Counts::default();
     let mut told = 0;
-    for number in run.numbers() {
+    for number in run.records() {
         let case = case(run.seed, number);
-        let (expected, found) = (made(&model, &case), made(programs, &case));
+        let (expected, found) = (made(model, &case), made(programs, &case));
         counts.note(&expected, &found);
         if expected != found && told < TOLD {
             told += 1;
@@ -45,13 +87,7 @@ pub fn compare(run: &Run, programs: &dyn Programs, rules: &Rules, again: &str) -
         }
         coverage.note(&case);
     }
-    let mut alike = counts.all_alike();
-    if run.only.is_none() {
-        alike &= covered(&coverage, &counts);
-        alike &= arguments_alike(programs);
-    }
-    counts.print();
-    alike
+    (counts, coverage)
 }
 
 /// What the programs make of a case.
@@ -88,7 +124,7 @@ fn mending(programs: &dyn Programs, case: &Case) -> Mending {
     let written = programs.mend(case);
     let table = match &written {
         Ok(written) if !written.record.is_empty() && !sound(&case.capture) => {
-            Some(programs.mended_table(&written.record))
+            Some(programs.written_table(&written.record))
         }
         _ => None,
     };
@@ -139,31 +175,25 @@ impl Counts {
 
     fn all_alike(&self) -> bool {
         let alike = [self.tables, self.pictures, self.mendings];
-        self.records > 0 && alike == [self.records; 3]
+        alike == [self.records; 3]
     }
 
-    fn print(&self) {
-        println!(
-            "model: {} records, {} tables, {} pictures and {} mendings alike; {} damaged records mended",
-            self.records, self.tables, self.pictures, self.mendings, self.mended
-        );
+    /// A run of enough records has to mend a damaged one for every two.
+    fn enough_mended(&self) -> bool {
+        let enough = self.records < ENOUGH_RECORDS || 2 * self.mended >= self.records;
+        if !enough {
+            println!("too few damaged records mended: {}", self.mended);
+        }
+        enough
     }
 }
 
-/// Prints what was met; a run of enough records has to meet every class, and to mend a damaged
-/// record for every two.
-fn covered(coverage: &Coverage, counts: &Counts) -> bool {
-    coverage.print();
-    let missed = coverage.missed();
-    if counts.records < ENOUGH_RECORDS {
-        return true;
+impl fmt::Display for Counts {
+    fn fmt(&self, to: &mut fmt::Formatter) -> fmt::Result {
+        write!(
+            to,
+            "{} records, {} tables, {} pictures and {} mendings alike; {} damaged records mended",
+            self.records, self.tables, self.pictures, self.mendings, self.mended
+        )
     }
-    for class in &missed {
-        println!("never met: {class}");
-    }
-    let enough = 2 * counts.mended >= counts.records;
-    if !enough {
-        println!("too few damaged records mended: {}", counts.mended);
-    }
-    missed.is_empty() && enough
 }

@@ -1,4 +1,6 @@
-//! What the records of a run have met, and what they should have met.
+//! What the records of a run have met, and what they should have met; its scripts likewise.
+
+mod scripts;
 
 use crate::generator::author::WAITS;
 use crate::generator::case::{end_of, Case, DIGITS};
@@ -12,8 +14,9 @@ use crate::model::screen::Form;
 use crate::model::transfer::Outcome;
 use std::collections::BTreeMap;
 
-/// Below so many records a run need not meet every class.
+/// Below so many records, or scripts, a run need not meet every class of theirs.
 pub const ENOUGH_RECORDS: u64 = 1000;
+pub const ENOUGH_SCRIPTS: u64 = 500;
 
 const RANGES: [&str; 9] = [
     "00", "01", "02-03", "04-07", "08-0F", "10-1F", "20-3F", "40-7F", "80-FF",
@@ -22,7 +25,7 @@ const RANGES: [&str; 9] = [
 const KINDS: [&str; 4] = ["data write", "status read", "data read", "busy status read"];
 
 #[rustfmt::skip]
-const CLASSES: [(&str, &[&str]); 14] = [
+const CLASSES: [Group; 14] = [
     ("records", &["sound", "empty record", "full record", "refused 7", "refused 8", "refused 9", "too long"]),
     ("mendings", &["refused 7", "refused 8", "too long", "too long, version not 1", "sound", "nothing dropped, length altered", "bytes dropped, length kept", "bytes dropped, length altered",
         "no event kept", "4096 kept", "4096 kept of more", "event cut", "events behind an ill-formed one", "events behind the length", "12291 bytes", "more than 12291 bytes", "65537 bytes"]),
@@ -41,6 +44,9 @@ const CLASSES: [(&str, &[&str]); 14] = [
         "display off", "cursor seen", "cursor without blink", "blink seen", "blink without cursor", "cursor of character memory", "28-3F with two lines", "code 00-0F, 8 rows", "code 00-0F, 11 rows", "shift"]),
 ];
 
+/// A group's name and its classes.
+type Group = (&'static str, &'static [&'static str]);
+
 type Class = (&'static str, String);
 
 pub struct Coverage {
@@ -49,14 +55,15 @@ pub struct Coverage {
 }
 
 impl Coverage {
-    pub fn new() -> Coverage {
-        let mut order: Vec<Class> = Vec::new();
-        for (group, classes) in CLASSES {
-            order.extend(classes.iter().map(|class| (group, class.to_string())));
-        }
+    pub fn of_records() -> Coverage {
+        let mut order = listed(&CLASSES);
         order.extend(DAMAGES.map(|(name, _)| ("damages", name.to_string())));
         order.extend(WAITS.map(|wait| ("waits", wait.to_string())));
         order.extend(DIGITS.map(|digits| ("digits", digits.to_string())));
+        Coverage::of(order)
+    }
+
+    fn of(order: Vec<Class>) -> Coverage {
         let counts = order.iter().map(|class| (class.clone(), 0)).collect();
         Coverage { counts, order }
     }
@@ -67,13 +74,20 @@ impl Coverage {
         *count.unwrap_or_else(|| panic!("{class:?} is no class")) += 1;
     }
 
+    /// Counts what need not be a class.
+    fn met_listed(&mut self, group: &'static str, class: String) {
+        if let Some(count) = self.counts.get_mut(&(group, class)) {
+            *count += 1;
+        }
+    }
+
     fn met_if(&mut self, condition: bool, group: &'static str, class: impl ToString) {
         if condition {
             self.met(group, class);
         }
     }
 
-    pub fn print(&self) {
+    fn print(&self) {
         let mut groups: Vec<&str> = self.order.iter().map(|(group, _)| *group).collect();
         groups.dedup();
         for group in groups {
@@ -85,12 +99,15 @@ impl Coverage {
         }
     }
 
-    /// The classes that were never met.
-    pub fn missed(&self) -> Vec<String> {
+    /// Prints what was met; whether every class was, which a run of enough has to.
+    pub fn covered(&self, enough: bool) -> bool {
+        self.print();
         let missed = self.order.iter().filter(|class| self.counts[class] == 0);
-        missed
-            .map(|(group, class)| format!("{group}, {class}"))
-            .collect()
+        let missed: Vec<&Class> = missed.filter(|_| enough).collect();
+        for (group, class) in &missed {
+            println!("never met: {group}, {class}");
+        }
+        missed.is_empty()
     }
 
     pub fn note(&mut self, case: &Case) {
@@ -344,6 +361,12 @@ impl Coverage {
         let characters = part.memory == Memory::Character;
         self.met_if(wanted && characters, group, "cursor of character memory");
     }
+}
+
+fn listed(groups: &[Group]) -> Vec<Class> {
+    let classes =
+        |&(group, classes): &Group| classes.iter().map(move |class| (group, class.to_string()));
+    groups.iter().flat_map(classes).collect()
 }
 
 /// The byte that a write completes.

@@ -12,14 +12,15 @@ mod paper;
 mod programs;
 mod wrong;
 
-use compare::Run;
+use compare::{Only, Run};
 use model::rules::PAPER;
 use programs::{Built, Itself, Programs};
 use std::process::ExitCode;
 
 const USAGE: &str = "\
-usage: model compare BENCH SCREEN MEND [--seed S] [--records N] [--only NUMBER] [--wrong NAME]
-       model wrong [BENCH SCREEN MEND] [--seed S] [--records N]
+usage: model compare BENCH SCREEN MEND PANEL [--seed S] [--records N] [--scripts N]
+                     [--only NUMBER | --script NUMBER] [--wrong NAME]
+       model wrong [BENCH SCREEN MEND PANEL] [--seed S] [--records N] [--scripts N]
        model names";
 
 fn main() -> ExitCode {
@@ -39,17 +40,17 @@ fn command(arguments: &[String]) -> Result<bool, String> {
     let (name, rest) = arguments.split_first().ok_or(USAGE)?;
     let options = Options::new(rest)?;
     match (name.as_str(), options.programs.as_slice()) {
-        ("compare", [bench, screen, mend]) => {
+        ("compare", [bench, screen, mend, panel]) => {
             let rules = match &options.wrong {
                 Some(name) => &wrong::named(name).ok_or("no such wrong model")?.rules,
                 None => &PAPER,
             };
-            let programs = Built::new([bench, screen, mend])?;
+            let programs = Built::new([bench, screen, mend, panel])?;
             let again = options.again();
             Ok(compare::compare(&options.run, &programs, rules, &again))
         }
-        ("wrong", [bench, screen, mend]) => {
-            let programs = Built::new([bench, screen, mend])?;
+        ("wrong", [bench, screen, mend, panel]) => {
+            let programs = Built::new([bench, screen, mend, panel])?;
             Ok(catch::catch_wrong(&options.run, &programs))
         }
         ("wrong", []) => {
@@ -82,6 +83,7 @@ impl Options {
             run: Run {
                 seed: 1,
                 records: 2000,
+                scripts: 500,
                 only: None,
             },
             wrong: None,
@@ -97,7 +99,9 @@ impl Options {
             match word.as_str() {
                 "--seed" => options.run.seed = number()?,
                 "--records" => options.run.records = number()?,
-                "--only" => options.run.only = Some(number()?),
+                "--scripts" => options.run.scripts = number()?,
+                "--only" => options.run.only = Some(Only::Record(number()?)),
+                "--script" => options.run.only = Some(Only::Script(number()?)),
                 "--wrong" => options.wrong = Some(value.clone()),
                 _ => return Err(USAGE.to_string()),
             }
@@ -105,7 +109,7 @@ impl Options {
         Ok(options)
     }
 
-    /// The command that repeats one record, but for its seed and number.
+    /// The command that repeats one record or script, but for its seed and number.
     fn again(&self) -> String {
         let wrong = self.wrong.iter().map(|name| format!(" --wrong {name}"));
         let wrong: String = wrong.collect();

@@ -1,6 +1,7 @@
 //! Tests of the model by the paper's own words: its example, P1 to P11, each refusal; and by what 02, 3/12 says of Clear.
 
 mod mending;
+mod panel;
 
 use crate::compare::{compare, Run};
 use crate::generator::case::{case, end_of};
@@ -488,6 +489,7 @@ fn the_generator_meets_every_class() {
     let run = Run {
         seed: 3,
         records: 2000,
+        scripts: 500,
         only: None,
     };
     assert!(compare(&run, &Itself { rules: &PAPER }, &PAPER, ""));

@@ -1,17 +1,23 @@
-//! The three programs under test: the built ones, or the model itself in their place.
+//! The four programs under test: the built ones, or the model itself in their place.
 
 use crate::generator::case::Case;
+use crate::generator::script::Given;
 use crate::model::mend::Written;
+use crate::model::panel::{call, Word};
 use crate::model::record::Event;
 use crate::model::rules::Rules;
 use crate::model::screen::{arguments, screen, Form};
 use crate::model::table::bench;
+use std::ffi::{OsStr, OsString};
 use std::fs;
 use std::io::{self, Write};
+use std::os::unix::ffi::OsStringExt;
 use std::path::PathBuf;
 use std::process::{Command, Output, Stdio};
 use std::thread::sleep;
 use std::time::Duration;
+
+const NO_WORDS: &[&str] = &[];
 
 /// What a program printed, or how it failed to end as it should.
 pub type Printed = Result<Vec<u8>, String>;
@@ -20,10 +26,13 @@ pub trait Programs: Sync {
     fn bench(&self, case: &Case) -> Printed;
     fn screen(&self, case: &Case) -> Printed;
     fn mend(&self, case: &Case) -> Result<Written, String>;
-    /// What `bench` prints for a record that was mended.
-    fn mended_table(&self, record: &[u8]) -> Printed;
+    fn panel(&self, given: &Given) -> Result<Written, String>;
+    /// What `bench` prints for a record that another program wrote.
+    fn written_table(&self, record: &[u8]) -> Printed;
     /// Lines that `screen` prints, to whichever stream, for a list of arguments and no record.
     fn screen_lines(&self, arguments: &[String]) -> Result<usize, String>;
+    /// Whether `panel` answers these words and no record with its usage line alone.
+    fn panel_usage(&self, words: &[Word]) -> Result<bool, String>;
 }
 
 /// The model in the programs' place.
@@ -44,8 +53,14 @@ impl Programs for Itself<'_> {
         Ok((self.rules.written)(self.rules, &case.capture))
     }
 
-    /// The table of the events, with no look at the head: a mended record is never refused.
-    fn mended_table(&self, record: &[u8]) -> Printed {
+    /// Words that are no call are never given here.
+    fn panel(&self, given: &Given) -> Result<Written, String> {
+        let call = call(&given.words).ok_or("a usage line is due")?;
+        Ok((self.rules.panel)(self.rules, &call, &given.record))
+    }
+
+    /// The table of the events, with no look at the head: such a record is never refused.
+    fn written_table(&self, record: &[u8]) -> Printed {
         let events: Vec<Event> = record[3..]
             .chunks_exact(3)
             .map(|bytes| (self.rules.event)([bytes[0], bytes[1], bytes[2]]))
@@ -60,6 +75,10 @@ impl Programs for Itself<'_> {
             _ => Ok(1),
         }
     }
+
+    fn panel_usage(&self, words: &[Word]) -> Result<bool, String> {
+        Ok(call(words).is_none())
+    }
 }
 
 /// The built programs, with a folder of their own for ROM images.
@@ -67,12 +86,13 @@ pub struct Built {
     bench: String,
     screen: String,
     mend: String,
+    panel: String,
     folder: PathBuf,
 }
 
 impl Built {
-    pub fn new([bench, screen, mend]: [&str; 3]) -> Result<Built, String> {
-        for program in [bench, screen, mend] {
+    pub fn new([bench, screen, mend, panel]: [&str; 4]) -> Result<Built, String> {
+        for program in [bench, screen, mend, panel] {
             fs::metadata(program).map_err(|error| format!("{program}: {error}"))?;
         }
         let name = format!("screen-model-{}", std::process::id());
@@ -82,6 +102,7 @@ impl Built {
             bench: bench.to_string(),
             screen: screen.to_string(),
             mend: mend.to_string(),
+            panel: panel.to_string(),
             folder,
         })
     }
@@ -91,7 +112,7 @@ impl Built {
     }
 
     fn table(&self, record: &[u8], pause: Option<usize>) -> Printed {
-        let output = run(&self.bench, &[], record, pause)?;
+        let output = run(&self.bench, NO_WORDS, record, pause)?;
         ended_well(&output)?;
         Ok(output.stdout)
     }
@@ -119,7 +140,7 @@ impl Programs for Built {
     }
 
     fn mend(&self, case: &Case) -> Result<Written, String> {
-        let output = run(&self.mend, &[], &case.capture, case.pause)?;
+        let output = run(&self.mend, NO_WORDS, &case.capture, case.pause)?;
         ended_well(&output)?;
         Ok(Written {
             record: output.stdout,
@@ -127,7 +148,21 @@ impl Programs for Built {
         })
     }
 
-    fn mended_table(&self, record: &[u8]) -> Printed {
+    fn panel(&self, given: &Given) -> Result<Written, String> {
+        let output = run(
+            &self.panel,
+            &spelled(&given.words),
+            &given.record,
+            given.pause,
+        )?;
+        ended_well(&output)?;
+        Ok(Written {
+            record: output.stdout,
+            line: output.stderr,
+        })
+    }
+
+    fn written_table(&self, record: &[u8]) -> Printed {
         self.table(record, None)
     }
 
@@ -138,8 +173,26 @@ impl Programs for Built {
         if !printed.is_empty() && !printed.ends_with(b"\n") {
             return Err("a line without its end".to_string());
         }
-        Ok(printed.iter().filter(|&&byte| byte == b'\n').count())
+        Ok(lines(&printed))
     }
+
+    fn panel_usage(&self, words: &[Word]) -> Result<bool, String> {
+        let output = run(&self.panel, &spelled(words), &[0x00, 0x01, 0x01], None)?;
+        ended_well(&output)?;
+        let printed = output.stdout;
+        let line = printed.ends_with(b"\n") && lines(&printed) == 1;
+        Ok(line && printed.starts_with(b"usage: panel") && output.stderr.is_empty())
+    }
+}
+
+fn lines(printed: &[u8]) -> usize {
+    printed.iter().filter(|&&byte| byte == b'\n').count()
+}
+
+/// Words of any bytes, as the system takes them.
+fn spelled(words: &[Word]) -> Vec<OsString> {
+    let words = words.iter().cloned();
+    words.map(OsString::from_vec).collect()
 }
 
 pub fn screen_arguments(case: &Case, rom: &str) -> Vec<String> {
@@ -151,7 +204,7 @@ pub fn screen_arguments(case: &Case, rom: &str) -> Vec<String> {
     arguments
 }
 
-/// Bench and mend end with status 0.
+/// Bench, mend and panel end with status 0.
 fn ended_well(output: &Output) -> Result<(), String> {
     match output.status.success() {
         true => Ok(()),
@@ -169,7 +222,7 @@ fn ended(output: &Output) -> Result<(), String> {
 
 fn run(
     program: &str,
-    arguments: &[String],
+    arguments: &[impl AsRef<OsStr>],
     input: &[u8],
     pause: Option<usize>,
 ) -> Result<Output, String> {

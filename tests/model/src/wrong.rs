@@ -1,9 +1,10 @@
-//! Wrong models: each replaces one of the paper's rules. The comparison has to catch every one.
+//! Wrong models: each replaces one of the rules. The comparison has to catch every one.
 
 mod counters;
 mod halves;
 mod instructions;
 mod mends;
+mod panels;
 mod pictures;
 mod records;
 
@@ -23,7 +24,8 @@ pub const EARLIER_FIRMWARE: [&str; 5] = [
     "n-change-keeps-address",
 ];
 
-pub fn all() -> Vec<&'static Wrong> {
+/// Those that records catch.
+pub fn of_records() -> Vec<&'static Wrong> {
     let lists = [
         counters::LIST,
         instructions::LIST,
@@ -33,6 +35,15 @@ pub fn all() -> Vec<&'static Wrong> {
         mends::LIST,
     ];
     lists.into_iter().flatten().collect()
+}
+
+/// Those that scripts catch.
+pub fn of_scripts() -> Vec<&'static Wrong> {
+    panels::LIST.iter().collect()
+}
+
+pub fn all() -> Vec<&'static Wrong> {
+    [of_records(), of_scripts()].concat()
 }
 
 pub fn named(name: &str) -> Option<&'static Wrong> {

@@ -18,9 +18,9 @@ const DISPLAY_LEFT: u8 = 0x18;
 const DISPLAY_RIGHT: u8 = 0x1C;
 
 pub struct Author<'r> {
-    random: &'r mut Random,
-    part: Part,
-    events: Vec<Event>,
+    pub(super) random: &'r mut Random,
+    pub(super) part: Part,
+    pub(super) events: Vec<Event>,
     room: usize,
     /// How often, in percent, a busy part is waited for.
     patience: usize,
@@ -30,16 +30,7 @@ pub struct Author<'r> {
 
 /// The events of a sound record, at most `room`; as many if a record holds no more.
 pub fn events(random: &mut Random, room: usize) -> Vec<Event> {
-    let patience = random.pick(&[100, 100, 97, 90, 60]);
-    let slips = random.pick(&[0, 0, 5, 15, 40]);
-    let mut author = Author {
-        random,
-        part: switched_on(),
-        events: Vec::new(),
-        room: room.saturating_sub(ROOM_TO_CLOSE),
-        patience,
-        slips,
-    };
+    let mut author = Author::new(random, room.saturating_sub(ROOM_TO_CLOSE));
     author.open();
     while author.events.len() < author.room {
         author.act();
@@ -53,7 +44,21 @@ pub fn events(random: &mut Random, room: usize) -> Vec<Event> {
 }
 
 impl Author<'_> {
-    fn push(&mut self, kind: u8, value: u16) {
+    /// An author of some habits, with a part just switched on and room for so many events.
+    pub(super) fn new(random: &mut Random, room: usize) -> Author<'_> {
+        let patience = random.pick(&[100, 100, 97, 90, 60]);
+        let slips = random.pick(&[0, 0, 5, 15, 40]);
+        Author {
+            random,
+            part: switched_on(),
+            events: Vec::new(),
+            room,
+            patience,
+            slips,
+        }
+    }
+
+    pub(super) fn push(&mut self, kind: u8, value: u16) {
         if self.events.len() < self.room {
             let event = Event { kind, value };
             run(&PAPER, &mut self.part, event);
@@ -61,7 +66,7 @@ impl Author<'_> {
         }
     }
 
-    fn wait(&mut self, ticks: u16) {
+    pub(super) fn wait(&mut self, ticks: u16) {
         self.push(WAIT, ticks);
     }
 
@@ -93,7 +98,7 @@ impl Author<'_> {
     }
 
     /// One transfer on the bus, a half on four lines.
-    fn transfer(&mut self, kind: u8, value: u8) {
+    pub(super) fn transfer(&mut self, kind: u8, value: u8) {
         self.ready();
         self.push(kind, u16::from(value));
     }
@@ -136,11 +141,11 @@ impl Author<'_> {
         }
     }
 
-    fn instruct(&mut self, byte: u8) {
+    pub(super) fn instruct(&mut self, byte: u8) {
         self.send(INSTRUCTION_WRITE, byte);
     }
 
-    fn write(&mut self, byte: u8) {
+    pub(super) fn write(&mut self, byte: u8) {
         self.send(DATA_WRITE, byte);
     }
 
@@ -153,7 +158,7 @@ impl Author<'_> {
     }
 
     /// Ends a waiting half: by its second, or by one that disagrees.
-    fn settle(&mut self) {
+    pub(super) fn settle(&mut self) {
         let Some(half) = self.part.half else {
             return;
         };
@@ -174,7 +179,7 @@ impl Author<'_> {
     }
 
     /// Does something without slips and with all patience.
-    fn carefully(&mut self, action: fn(&mut Self)) {
+    pub(super) fn carefully(&mut self, action: fn(&mut Self)) {
         let habits = (self.patience, self.slips);
         (self.patience, self.slips) = (100, 0);
         action(self);
@@ -208,7 +213,7 @@ impl Author<'_> {
         }
     }
 
-    fn act(&mut self) {
+    pub(super) fn act(&mut self) {
         if self.random.percent(60) {
             self.settle();
         }
@@ -266,7 +271,7 @@ impl Author<'_> {
         }
     }
 
-    fn pause(&mut self) {
+    pub(super) fn pause(&mut self) {
         let any = self.random.next() as u16;
         let listed = self.random.pick(&WAITS);
         let wait = self.random.pick(&[listed, listed, listed, any]);
@@ -289,7 +294,7 @@ impl Author<'_> {
         self.instruct(byte);
     }
 
-    fn border_address(&mut self) {
+    pub(super) fn border_address(&mut self) {
         let address = self.random.pick(&BORDERS);
         let memory = self.random.pick(&[0x80, 0x80, 0x40]);
         self.instruct(memory | address);
@@ -339,7 +344,7 @@ impl Author<'_> {
         }
     }
 
-    fn characters(&mut self) {
+    pub(super) fn characters(&mut self) {
         let border = self.random.pick(&[0x00, 0x01, 0x3E, 0x3F]);
         let any = self.random.byte() & 0x3F;
         let address = self.random.pick(&[border, any]);
@@ -369,7 +374,7 @@ impl Author<'_> {
         }
     }
 
-    fn move_display(&mut self) {
+    pub(super) fn move_display(&mut self) {
         let way = self.random.pick(&[DISPLAY_LEFT, DISPLAY_RIGHT]);
         let count = self.random.pick(&[1, 2, 3, 41]);
         for _ in 0..count {
@@ -384,7 +389,7 @@ impl Author<'_> {
     }
 
     /// The function byte's upper half that keeps the bus as it is.
-    fn bus(&self) -> u8 {
+    pub(super) fn bus(&self) -> u8 {
         if self.part.eight_lines {
             0x30
         } else {
@@ -420,7 +425,12 @@ impl Author<'_> {
             12
         };
         let uppers = [3, 3, 3, 2, 2, 8, 0, 8, 0, 2, 0, 6];
-        for upper in uppers.into_iter().take(writes) {
+        self.upper_lines(&uppers[..writes]);
+    }
+
+    /// Instruction writes of these upper lines, with any lower ones, the busy time waited out.
+    pub(super) fn upper_lines(&mut self, uppers: &[u8]) {
+        for upper in uppers {
             let lower = self.random.byte() >> 4;
             let busy = self.part.busy;
             if busy > 0 {
@@ -430,7 +440,7 @@ impl Author<'_> {
         }
     }
 
-    fn show(&mut self) {
+    pub(super) fn show(&mut self) {
         let hidden = self.random.pick(&[0x08, 0x09, 0x0A, 0x0B]);
         let shown = self.random.pick(&[0x0C, 0x0D, 0x0E, 0x0F, 0x0F]);
         let settings = if self.random.percent(15) {

@@ -3,7 +3,7 @@
 use super::author;
 use super::damage;
 use super::random::Random;
-use crate::model::part::{switched_on, Part};
+use crate::model::part::Part;
 use crate::model::picture::{View, ROM_BYTES};
 use crate::model::record::{self, record, MOST_EVENTS};
 use crate::model::rules::PAPER;
@@ -66,11 +66,8 @@ pub fn sound(record: &[u8]) -> bool {
 
 /// The part that a sound record ends in; switched on for another.
 pub fn end_of(record: &[u8]) -> Part {
-    let mut part = switched_on();
-    for event in record::events(&PAPER, record).unwrap_or_default() {
-        record::run(&PAPER, &mut part, event);
-    }
-    part
+    let events = record::events(&PAPER, record).unwrap_or_default();
+    record::led(&PAPER, &events)
 }
 
 fn room(random: &mut Random) -> usize {

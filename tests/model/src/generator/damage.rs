@@ -52,6 +52,14 @@ pub fn damage(random: &mut Random, record: &mut Vec<u8>) -> &'static str {
     name
 }
 
+/// Damages a sound record, so that each way of refusing it is as likely.
+pub fn damage_for_each_refusal(random: &mut Random, record: &mut Vec<u8>) {
+    let damages: [Damage; 5] = [length_any, version, kind, too_long, |random, record| {
+        damage(random, record);
+    }];
+    random.pick(&damages)(random, record);
+}
+
 fn put_length(record: &mut [u8], length: usize) {
     record[..2].copy_from_slice(&(length as u16).to_be_bytes());
 }

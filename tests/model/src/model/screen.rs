@@ -2,7 +2,7 @@
 
 use super::part::Part;
 use super::picture::{picture, View};
-use super::record::run;
+use super::record::led;
 use super::rules::Rules;
 use super::table::refusal;
 
@@ -44,10 +44,7 @@ pub fn screen(rules: &Rules, input: &[u8], view: &View, form: Form) -> Vec<u8> {
         return b"too long\n".to_vec();
     }
     let shown = (rules.events)(rules, input).and_then(|events| {
-        let mut part = (rules.switched_on)();
-        for event in events {
-            run(rules, &mut part, event);
-        }
+        let part = led(rules, &events);
         let bytes = picture(rules, &part, view)?;
         Ok((rules.dot_lines)(rules, &part, view, &bytes))
     });

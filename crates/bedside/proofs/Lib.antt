@@ -1,0 +1,5 @@
+pub mod Ready
+pub mod Refused
+pub mod Nights
+pub mod Found
+pub mod Called

@@ -1,0 +1,4 @@
+pub mod Answers
+pub mod Log
+pub mod Refusals
+pub mod Panel

@@ -1,0 +1,4 @@
+pub mod Words
+pub mod Course
+pub mod Contracts
+pub mod Theorems

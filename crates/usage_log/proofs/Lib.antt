@@ -1,0 +1,11 @@
+pub mod Along
+pub mod Byte
+pub mod Given
+pub mod Ends
+pub mod Exactly
+pub mod Looked
+pub mod Called
+pub mod Kept
+pub mod Cut
+pub mod Restarted
+pub mod Settled
