@@ -27,7 +27,7 @@ use Rattle.usage_log.proofs.Along.{Along, cut-along}
 use Rattle.usage_log.proofs.Called.{call-ends, end-in-range, log-keeps-cell}
 use Rattle.usage_log.proofs.Ends.{log-along}
 use Rattle.usage_log.proofs.Given.{Ready, ready-facts}
-use Rattle.usage_log.proofs.Kept.{no-characters, figure-apart, mark-apart}
+use Rattle.usage_log.proofs.Kept.{no-characters, night-apart}
 use Rattle.usage_log.proofs.Looked.{figure-cell, mark-cell, looks-same, looks-unwritten, looks-written}
 
 module _ (c : Controller) (night quarters : ℕ) (whole : Whole c) (in-range : inRange (c .registers) ≡ true) (taken : NightTaken c night quarters) where
@@ -74,8 +74,8 @@ module _ (c : Controller) (night quarters : ℕ) (whole : Whole c) (in-range : i
         inl (looks-unwritten c t night (ranged-alike t ranged) (taken .unwritten) (kept (markCell night .0) (λ x. omega (arith, x, figure-cell night h, mark-cell night h)))),
         λ other n.
             looks-same c t other (ranged-alike t ranged) λ k. (
-              kept (figureCell other .0) (figure-apart night other h k n .0),
-              kept (markCell other .0) (mark-apart night other h k n .0),
+              kept (figureCell other .0) (night-apart night other (figureCell other .0) h k n (inl (figure-cell other k)) .0),
+              kept (markCell other .0) (night-apart night other (markCell other .0) h k n (inr (mark-cell other k)) .0),
             ),
       )
 
@@ -88,8 +88,8 @@ module _ (c : Controller) (night quarters : ℕ) (whole : Whole c) (in-range : i
         inr (reads-logged t e ranged),
         λ other n.
             looks-same c t other (ranged-alike t ranged) λ k. (
-              kept (figureCell other .0) (figure-apart night other h k n .0) (figure-apart night other h k n .1),
-              kept (markCell other .0) (mark-apart night other h k n .0) (mark-apart night other h k n .1),
+              kept (figureCell other .0) (night-apart night other (figureCell other .0) h k n (inl (figure-cell other k)) .0) (night-apart night other (figureCell other .0) h k n (inl (figure-cell other k)) .1),
+              kept (markCell other .0) (night-apart night other (markCell other .0) h k n (inr (mark-cell other k)) .0) (night-apart night other (markCell other .0) h k n (inr (mark-cell other k)) .1),
             ),
       )
 

@@ -25,6 +25,8 @@ use Rattle.counters.specs.declared.LineMode.the-variants.{One, Two}
 use Rattle.counters.specs.declared.address.DisplayAddress.{DisplayAddress}
 use Rattle.counters.specs.declared.counter.Counter.{Counter}
 use Rattle.counters.specs.declared.counter.Counter.the-variants.{Display}
+use Rattle.event.specs.Kind.{isRead}
+use Rattle.event.specs.declared.Kind.{Kind}
 use Rattle.event.specs.declared.Kind.the-variants.{InstructionWrite, DataWrite}
 use Rattle.halves.specs.declared.Half.{Half}
 use Rattle.instructions.proofs.Decoded.{decoded-by-range}
@@ -99,26 +101,29 @@ module _ (c : Controller) (ready : Ready (c .registers)) (ranged : InRange (c .r
   standing-in-range k d t u h =
       test (standing c k d t .registers) (unhalved (placed (c .registers) k (c .registers .shift)) t (record { counter = u; shift = ranged .shift }) h)
 
+  -- a byte that is done, whatever it does
+  done-leads : (k : Kind) → isRead k ≡ false → (n : ℕ) → n < 256 → (at : Counter) (d : List ℕ) (t : ℕ) → T (hasCounter (c .registers .mode .lines) at) → t ≤ longest → (after : Controller)
+      → acted (standing c at d 0) k n ≡ record { said = saying 0 0; controller = after } → Leads (byteEvents (c .registers .bus) k n) (standing c at d t) after
+  done-leads k write n small at d t u h after told =
+      subst (λ (x : Told). Leads (byteEvents (c .registers .bus) k n) (standing c at d t) (x .controller)) told
+      (byte-leads (standing c at d t) (standing-in-range at d t u h) refl k write n small (subst⁻¹ (λ (x : Told). T (notRefused (x .said))) told tt))
+
   -- a display address is set
   pub address-leads : (a : DisplayAddress) (k : Counter) (d : List ℕ) (t : ℕ) → T (hasDisplay Two a) → T (hasCounter (c .registers .mode .lines) k) → t ≤ longest
       → Leads (addressEvents (c .registers .bus) a) (standing c k d t) (standing c (Display a) d 10)
   unfolding displayAfter characterAfter hasCounter numberOn
   address-leads a k d t u v h =
       let below : a .0 < 0x80 = number-below Two (Display a) u in
-      let told : acted (standing c k d 0) InstructionWrite (0x80 + a .0) ≡ record { said = saying 0 0; controller = standing c (Display a) d 10 } =
-      ap (carried (standing c k d 0)) (address-acts (standing c k d 0 .registers) a _ (exists a u) below) in
-      subst (λ (x : Told). Leads (addressEvents (c .registers .bus) a) (standing c k d t) (x .controller)) told
-      (byte-leads (standing c k d t) (standing-in-range k d t v h) refl InstructionWrite refl (0x80 + a .0) (omega arith) (subst⁻¹ (λ (x : Told). T (notRefused (x .said))) told tt))
+      done-leads InstructionWrite refl (0x80 + a .0) (omega arith) k d t v h (standing c (Display a) d 10)
+      (ap (carried (standing c k d 0)) (address-acts (standing c k d 0 .registers) a _ (exists a u) below))
 
   -- a byte is written to the addressed cell, and the counter steps up
   pub data-leads : (a : DisplayAddress) (n : ℕ) (d : List ℕ) (t : ℕ) → T (hasDisplay Two a) → n < 256 → t ≤ longest
       → Leads (byteEvents (c .registers .bus) DataWrite n) (standing c (Display a) d t) (standing c (Display (stepDisplay Two true a)) (set d (cellOf Two a .0) n) 10)
-  unfolding displayAfter characterAfter hasCounter numberOn
+  unfolding displayAfter characterAfter hasCounter
   data-leads a n d t u small h =
-      let told : acted (standing c (Display a) d 0) DataWrite n ≡ record { said = saying 0 0; controller = standing c (Display (stepDisplay Two true a)) (set d (cellOf Two a .0) n) 10 } =
-      ap (carried (standing c (Display a) d 0)) (data-acts (standing c (Display a) d 0 .registers) a n _ (ready .two) (ready .up) (ready .still) refl) in
-      subst (λ (x : Told). Leads (byteEvents (c .registers .bus) DataWrite n) (standing c (Display a) d t) (x .controller)) told
-      (byte-leads (standing c (Display a) d t) (standing-in-range (Display a) d t (exists a u) h) refl DataWrite refl n small (subst⁻¹ (λ (x : Told). T (notRefused (x .said))) told tt))
+      done-leads DataWrite refl n small (Display a) d t (exists a u) h (standing c (Display (stepDisplay Two true a)) (set d (cellOf Two a .0) n) 10)
+      (ap (carried (standing c (Display a) d 0)) (data-acts (standing c (Display a) d 0 .registers) a n _ (ready .two) (ready .up) (ready .still) refl))
 
   -- where the call begins
   pub standing-first : standing c (c .registers .counter) (c .display) (c .registers .busy) ≡ c

@@ -1,9 +1,9 @@
 -- What texts and nights logged keep of the log.
-use Prim.Native.Nat.{ℕ, _≤_}
+use Prim.Native.Nat.{ℕ, _+_, _≤_}
 use lib.ListN.{length, getD}
 use mathlib.Core.Bool.{true}
 use mathlib.Core.List.{List, []}
-use mathlib.Core.Logic.{_≢_, inl, inr}
+use mathlib.Core.Logic.{_⊎_, _≢_, inl, inr, ⊎-elim}
 use mathlib.Core.Path.{_≡_, _∙_, refl, sym}
 use native.Mathlib.Omega.{arith}
 use Rattle.bedside.proofs.Called.{call-taken, sixteen-taken, night-taken}
@@ -51,18 +51,14 @@ text-keeps-log c line characters small = record {
 pub no-characters : AllSmall []
 no-characters i = omega arith
 
--- the cells of two nights are different ones
-pub figure-apart : (night other : ℕ) → night ≤ lastNight → other ≤ lastNight → other ≢ night → (figureCell other .0 ≢ figureCell night .0) × (figureCell other .0 ≢ markCell night .0)
-figure-apart night other h k n = (
-  λ e. n (omega (arith, e, figure-cell night h, figure-cell other k)),
-  λ e. omega (arith, e, mark-cell night h, figure-cell other k),
-)
-
-pub mark-apart : (night other : ℕ) → night ≤ lastNight → other ≤ lastNight → other ≢ night → (markCell other .0 ≢ figureCell night .0) × (markCell other .0 ≢ markCell night .0)
-mark-apart night other h k n = (
-  λ e. omega (arith, e, figure-cell night h, mark-cell other k),
-  λ e. n (omega (arith, e, mark-cell night h, mark-cell other k)),
-)
+-- the cells of another night are other ones
+pub night-apart : (night other i : ℕ) → night ≤ lastNight → other ≤ lastNight → other ≢ night → (i ≡ 16 + other) ⊎ (i ≡ 56 + other) → (i ≢ figureCell night .0) × (i ≢ markCell night .0)
+night-apart night other i h k n at =
+    let f = figure-cell night h in
+    let m = mark-cell night h in (
+      λ e. ⊎-elim (λ a. n (omega (arith, e, f, a))) (λ a. omega (arith, e, f, a)) at,
+      λ e. ⊎-elim (λ a. omega (arith, e, m, a)) (λ a. n (omega (arith, e, m, a))) at,
+    )
 
 pub logging-keeps-others : LoggingKeepsOthers
 unfolding endOf
@@ -76,8 +72,8 @@ logging-keeps-others c night quarters = record {
       let r = call-taken c (Log night quarters) 0 e in
       let t = night-taken c night quarters (r .own) in
       looks-same c (endOf c (Log night quarters) []) other (ranged-alike c (Log night quarters) [] (r .in-range)) λ h.
-      let f = figure-apart night other (t .in-course) h n in
-      let m = mark-apart night other (t .in-course) h n in (
+      let f = night-apart night other (figureCell other .0) (t .in-course) h n (inl (figure-cell other h)) in
+      let m = night-apart night other (markCell other .0) (t .in-course) h n (inr (mark-cell other h)) in (
         log-keeps-cell night quarters [] (c .display) (figureCell other .0) (f .0) (f .1),
         log-keeps-cell night quarters [] (c .display) (markCell other .0) (m .0) (m .1),
       );
