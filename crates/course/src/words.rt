@@ -1,7 +1,6 @@
 // The words that the panel program is started with.
 ghost use mathlib.Core.Path.{_≡_};
-ghost use Rattle.arguments.specs.Words.{numberIn};
-ghost use Rattle.course.specs.Words.{mostNumber, textAsked, logAsked, nightAsked, askedBy};
+ghost use Rattle.course.specs.Words.{byteIn, textAsked, logAsked, nightAsked, askedBy};
 use super::request::Request;
 use arguments::Number;
 use arguments::is_word;
@@ -13,37 +12,50 @@ pub enum Asked {
     Usage,
 }
 
+// A number of the command line.
+pub enum Byte {
+    Given(u8),
+    NoByte,
+}
+
 const MOST_NUMBER: u16 = 255;
 
-fn text_asked(line: &[u8]) -> Asked
-    ensures { λ r. ⌜ r ≡ textAsked (numberIn mostNumber (now (line .entry))) ⌝ }
+fn byte_in(word: &[u8]) -> Byte
+    ensures { λ r. ⌜ r ≡ byteIn (now (word .entry)) ⌝ }
 {
-    match number_in(line, MOST_NUMBER) {
-        Number::NoNumber => Asked::Usage,
-        Number::Decimal(line) => Asked::Asks(Request::Make(Call::Text(line as u8))),
+    match number_in(word, MOST_NUMBER) {
+        Number::NoNumber => Byte::NoByte,
+        Number::Decimal(number) => Byte::Given(number as u8),
     }
 }
 
-fn log_asked(night: &[u8], quarters: &[u8]) -> Asked
-    ensures { λ r. ⌜ r ≡ logAsked (numberIn mostNumber (now (night .entry))) (numberIn mostNumber (now (quarters .entry))) ⌝ }
+fn text_asked(line: Byte) -> Asked
+    ensures { λ r. ⌜ r ≡ textAsked line ⌝ }
 {
-    match number_in(night, MOST_NUMBER) {
-        Number::NoNumber => Asked::Usage,
-        Number::Decimal(night) => match number_in(quarters, MOST_NUMBER) {
-            Number::NoNumber => Asked::Usage,
-            Number::Decimal(quarters) => {
-                Asked::Asks(Request::Make(Call::Log(night as u8, quarters as u8)))
-            }
+    match line {
+        Byte::NoByte => Asked::Usage,
+        Byte::Given(line) => Asked::Asks(Request::Make(Call::Text(line))),
+    }
+}
+
+fn log_asked(night: Byte, quarters: Byte) -> Asked
+    ensures { λ r. ⌜ r ≡ logAsked night quarters ⌝ }
+{
+    match night {
+        Byte::NoByte => Asked::Usage,
+        Byte::Given(night) => match quarters {
+            Byte::NoByte => Asked::Usage,
+            Byte::Given(quarters) => Asked::Asks(Request::Make(Call::Log(night, quarters))),
         },
     }
 }
 
-fn night_asked(night: &[u8]) -> Asked
-    ensures { λ r. ⌜ r ≡ nightAsked (numberIn mostNumber (now (night .entry))) ⌝ }
+fn night_asked(night: Byte) -> Asked
+    ensures { λ r. ⌜ r ≡ nightAsked night ⌝ }
 {
-    match number_in(night, MOST_NUMBER) {
-        Number::NoNumber => Asked::Usage,
-        Number::Decimal(night) => Asked::Asks(Request::LookUp(night as u8)),
+    match night {
+        Byte::NoByte => Asked::Usage,
+        Byte::Given(night) => Asked::Asks(Request::LookUp(night)),
     }
 }
 
@@ -52,13 +64,13 @@ pub fn asked_by(words: usize, what: &[u8], first: &[u8], second: &[u8]) -> Asked
     ensures { λ r. ⌜ r ≡ askedBy words (now (what .entry)) (now (first .entry)) (now (second .entry)) ⌝ }
 {
     if (words == 3) & is_word(b"text", what) {
-        return text_asked(first);
+        return text_asked(byte_in(first));
     }
     if (words == 3) & is_word(b"log", what) {
-        return log_asked(first, second);
+        return log_asked(byte_in(first), byte_in(second));
     }
     if (words == 2) & is_word(b"night", what) {
-        return night_asked(first);
+        return night_asked(byte_in(first));
     }
     Asked::Usage
 }
