@@ -1,4 +1,4 @@
--- A half that waits is below 16, the half of a read is 0; what is completed and answered, by the line count.
+-- A half that waits is below 16, the half of a read is 0; halves of one kind agree; what is completed and answered, by the line count.
 use Prim.Native.Nat.{ℕ, _+_, _*_, _≤_}
 use lib.Dec.{T, leb, leb→le, le→leb}
 use mathlib.Core.Bool.{Bool, true, false, cond}
@@ -6,7 +6,9 @@ use mathlib.Core.Path.{_≡_, refl}
 use native.Mathlib.Omega.{arith}
 use Rattle.condition.proofs.Tests.{and-right}
 use Rattle.event.specs.Kind.{isRead}
-use Rattle.halves.specs.Halves.{upper, lower, isFour, mostHalf, halfFits, upperOf, isFirst, completed, answered}
+use Rattle.event.specs.declared.Kind.{Kind}
+use Rattle.event.specs.declared.Kind.the-variants.{InstructionWrite, DataWrite, StatusRead, DataRead}
+use Rattle.halves.specs.Halves.{upper, lower, isFour, mostHalf, halfFits, upperOf, isFirst, disagrees, completed, answered}
 use Rattle.halves.specs.Theorems.{UpperFits, FirstFits}
 use Rattle.halves.specs.declared.Half.{Half}
 use Rattle.halves.specs.declared.LineCount.{LineCount}
@@ -32,6 +34,15 @@ unfolding halfFits isFirst isFour
 first-fits Eight Half.Nothing k n t = absurd t
 first-fits Four Half.Nothing k n t = held-fits (isRead k) n
 first-fits b (Half.Waiting w u) k n t = absurd t
+
+-- halves of one kind agree
+pub same-kind-agrees : (b : LineCount) (k : Kind) (u : ℕ) → disagrees b (Half.Waiting k u) k ≡ false
+unfolding disagrees isFour
+same-kind-agrees Eight k u = refl
+same-kind-agrees Four InstructionWrite u = refl
+same-kind-agrees Four DataWrite u = refl
+same-kind-agrees Four StatusRead u = refl
+same-kind-agrees Four DataRead u = refl
 
 -- ---- by the line count, as the code tests it
 pub completed-by-lines : (b : LineCount) (h : Half) (n : ℕ) → completed b h n ≡ cond (isFour b) (upperOf h * 16 + upper n) n

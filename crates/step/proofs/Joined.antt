@@ -3,7 +3,7 @@ use Prim.Native.Nat.{ℕ, _*_}
 use mathlib.Core.Bool.{Bool, true, false, cond, not, false≢true}
 use mathlib.Core.Path.{_≡_, _∙_, ap, refl, sym}
 use Rattle.controller.specs.Memory.{displayAfter, characterAfter}
-use Rattle.controller.specs.Part.{awaiting, with}
+use Rattle.controller.specs.Part.{arranged, awaiting, with}
 use Rattle.controller.specs.Result.{Result, forgotten, leaving}
 use Rattle.controller.specs.Told.{Told, toldWith, addressed, carried}
 use Rattle.controller.specs.declared.Controller.{Controller}
@@ -54,23 +54,27 @@ pub busy-leaves-all : BusyLeavesAll
 unfolding resultFor
 busy-leaves-all r k n b e = ap (λ (x : Bool). cond x (leaving 1 r) (onBus (r .bus) k r n (readOf k r b))) e
 
--- ---- the half does not matter to a whole byte
-shift-unhalved : (k : Counter) (r : Registers) (h : Half) → shiftAfter k (awaiting r h (r .busy)) ≡ shiftAfter k r
-unfolding shiftAfter
-shift-unhalved (Display a) r h = refl
-shift-unhalved (Character a) r h = refl
+-- ---- neither the line count nor the half matters to the display and to what is read, nor the half to a whole byte
+module _ (r : Registers) (b : LineCount) (h : Half) where
+  abbrev rewired : Registers
+  rewired = awaiting (arranged r b (r .mode)) h (r .busy)
 
-read-unhalved : (k : Kind) (r : Registers) (h : Half) (b : ℕ) → readOf k (awaiting r h (r .busy)) b ≡ readOf k r b
-unfolding readOf statusOf
-read-unhalved InstructionWrite r h b = refl
-read-unhalved DataWrite r h b = refl
-read-unhalved StatusRead r h b = refl
-read-unhalved DataRead r h b = refl
+  pub shift-rewired : (k : Counter) → shiftAfter k rewired ≡ shiftAfter k r
+  unfolding shiftAfter
+  shift-rewired (Display a) = refl
+  shift-rewired (Character a) = refl
+
+  pub read-rewired : (k : Kind) (n : ℕ) → readOf k rewired n ≡ readOf k r n
+  unfolding readOf statusOf
+  read-rewired InstructionWrite n = refl
+  read-rewired DataWrite n = refl
+  read-rewired StatusRead n = refl
+  read-rewired DataRead n = refl
 
 act-unhalved : (k : Kind) (r : Registers) (h : Half) (n v : ℕ) → act k (awaiting r h (r .busy)) n v ≡ act k r n v
 unfolding act writeData readStatus readData
 act-unhalved InstructionWrite r h n v = half-is-forgotten (decode n) r h
-act-unhalved DataWrite r h n v = rw (shift-unhalved (r .counter) r h)
+act-unhalved DataWrite r h n v = rw (shift-rewired r (r .bus) h (r .counter))
 act-unhalved StatusRead r h n v = refl
 act-unhalved DataRead r h n v = refl
 
@@ -105,6 +109,6 @@ module _ (c : Controller) (k : Kind) (n : ℕ) (free : refusedBusy (c .registers
       let v : ℕ = answered (r .bus) (readFrom c k) in
       let comes : act k r b v ≡ joined k r n (readFrom c k) (r .bus) (r .half) = rw (f, e, p) in
       q
-      ∙ ap (λ (x : ℕ). carried c (act k (awaiting r Half.Nothing (r .busy)) b (answered (r .bus) x))) (read-unhalved k r Half.Nothing (addressed c))
+      ∙ ap (λ (x : ℕ). carried c (act k (awaiting r Half.Nothing (r .busy)) b (answered (r .bus) x))) (read-rewired r (r .bus) Half.Nothing k (addressed c))
       ∙ ap (carried c) (act-unhalved k r Half.Nothing b v ∙ comes)
       ∙ sym stepped-joined

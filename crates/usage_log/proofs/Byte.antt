@@ -1,7 +1,7 @@
 -- A byte given to a part with no half waiting, on eight lines or four: it acts once, and no transfer of it is refused.
 use Prim.Native.Nat.{ℕ, _+_, _-_, _*_, _<_}
 use lib.Dec.{T, leb, le→leb}
-use mathlib.Core.Bool.{true, false, not, _&&_}
+use mathlib.Core.Bool.{false}
 use mathlib.Core.List.{List, _++_}
 use mathlib.Core.Path.{_≡_, _∙_, ap, refl, sym, subst⁻¹}
 use native.Mathlib.Omega.{arith}
@@ -16,10 +16,10 @@ use Rattle.controller.specs.Answers.{saying}
 use Rattle.controller.specs.Part.{awaiting, with, waited, longest, inRange}
 use Rattle.controller.specs.Told.{Told}
 use Rattle.controller.specs.declared.Controller.{Controller}
-use Rattle.event.specs.Kind.{isRead, alike}
+use Rattle.event.specs.Kind.{isRead}
 use Rattle.event.specs.declared.Event.{Event}
 use Rattle.event.specs.declared.Kind.{Kind}
-use Rattle.event.specs.declared.Kind.the-variants.{InstructionWrite, DataWrite, StatusRead, DataRead}
+use Rattle.halves.proofs.Waiting.{same-kind-agrees}
 use Rattle.halves.specs.Halves.{upper, lower, mostHalf, heldBy, isFour, isFirst, disagrees, completed, halfFits}
 use Rattle.halves.specs.declared.Half.{Half}
 use Rattle.halves.specs.declared.LineCount.{LineCount}
@@ -60,12 +60,6 @@ module _ (c : Controller) (t : T (inRange (c .registers))) (k : Kind) (n : ℕ) 
       }
 
 -- ---- a byte
-
-agrees : (k : Kind) → alike k k ≡ true
-agrees InstructionWrite = refl
-agrees DataWrite = refl
-agrees StatusRead = refl
-agrees DataRead = refl
 
 idle-in-range : (c : Controller) (h : Half) → T (inRange (c .registers)) → T (halfFits (c .registers .bus) h) → T (inRange (halfBusy c h 0 .registers))
 idle-in-range c h t u =
@@ -120,10 +114,9 @@ module _ (c : Controller) (t : T (inRange (c .registers))) (no-half : c .registe
       let taken = transfer-leads c t k (upper n * 16) _ (idle (upper n * 16) ∙ first .1 ∙ ap (λ (m : ℕ). record { said = saying 20 (first .0); controller = halfBusy c (Half.Waiting k m) 0 }) again) tt in
       let joined : n ≡ upper n * 16 + upper (lower n * 16) = omega arith in
       let whole : n ≡ completed (c .registers .bus) held (lower n * 16) = joined ∙ ap (λ (b : LineCount). completed b held (lower n * 16)) (sym e) in
-      let agree : disagrees (c .registers .bus) held k ≡ false = ap (λ (b : LineCount). isFour b && not (alike k k)) e ∙ ap not (agrees k) in
       leads-then taken
       (transfer-leads (halfBusy c held 0) waits k (lower n * 16) (acted (halfBusy c Half.Nothing 0) k n)
-      (completes c held k (lower n * 16) n waits refl agree whole) u)
+      (completes c held k (lower n * 16) n waits refl (same-kind-agrees (c .registers .bus) k (upper n)) whole) u)
       refl
 
   by-lines : (b : LineCount) → c .registers .bus ≡ b → Done (byteEvents b k n)
