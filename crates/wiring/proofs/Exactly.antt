@@ -1,0 +1,66 @@
+-- Answers that agree are each given exactly when the table says: its rows differ in their numbers, and a byte is had back from its halves.
+use Prim.Native.Nat.{ℕ, _+_, _*_, _/_, _<_}
+use borrow.Author.Tests.{eq-eqb}
+use lib.Dec.{T, eqb, eqb→eq}
+use mathlib.Core.Bool.{_&&_, not}
+use mathlib.Core.Logic.{_↔_}
+use mathlib.Core.Path.{_≡_, _∙_, ap, ap₂, refl, sym}
+use native.Mathlib.Omega.{arith}
+use Rattle.condition.proofs.Tests.{holds, and-left, and-right, neqb→ne}
+use Rattle.controller.specs.Answers.{Said, saying}
+use Rattle.halves.specs.Halves.{upper, lower}
+use Rattle.wiring.specs.Statement.{AgreeGivenExactly}
+use Rattle.wiring.specs.Words.{Agree, AgreeExactly}
+
+-- ---- numbers and values
+numbers : {s t : Said} → s ≡ t → s .number ≡ t .number
+numbers e = ap (λ (s : Said). s .number) e
+
+values : {s t : Said} → s ≡ t → s .value ≡ t .value
+values e = ap (λ (s : Said). s .value) e
+
+number-exactly : (x m y a z b : ℕ) → eqb x m ≡ eqb y a && eqb z b → (x ≡ m) ↔ ((y ≡ a) × (z ≡ b))
+number-exactly x m y a z b e = (
+  λ p.
+      let t : T (eqb y a && eqb z b) = holds (eqb y a && eqb z b) (sym e ∙ eq-eqb x m p) in
+      (eqb→eq y a (and-left (eqb y a) (eqb z b) t), eqb→eq z b (and-right (eqb y a) (eqb z b) t)),
+  λ p. eqb→eq x m (holds (eqb x m) (e ∙ rw (eq-eqb y a (p .0), eq-eqb z b (p .1)))),
+)
+
+byte-joins : (v : ℕ) → v < 256 → upper v * 16 + lower v * 16 / 16 ≡ v
+byte-joins v h = omega arith
+
+-- ---- one row
+module _ (eight first second : Said) (u : first .value ≡ upper (eight .value) * 16) (l : second .value ≡ lower (eight .value) * 16) where
+  halves-join : eight .value < 256 → first .value + second .value / 16 ≡ eight .value
+  halves-join h = ap₂ (λ (x y : ℕ). x + y / 16) u l ∙ byte-joins (eight .value) h
+
+  row-exactly : eqb (eight .number) 0 ≡ eqb (first .number) 20 && eqb (second .number) 0
+      → eqb (eight .number) 1 ≡ eqb (first .number) 1 && eqb (second .number) 1
+      → eqb (eight .number) 3 ≡ eqb (first .number) 20 && eqb (second .number) 3
+      → eqb (eight .number) 16 ≡ eqb (first .number) 16 && eqb (second .number) 16
+      → T (not (eqb (eight .number) 2)) × T (not (eqb (first .number) 2)) × T (not (eqb (second .number) 2)) → AgreeExactly eight first second
+  row-exactly d e f g t =
+      let done = number-exactly (eight .number) 0 (first .number) 20 (second .number) 0 d in
+      record {
+        done = λ v h k. (
+          λ p. (
+            ap₂ saying (done .0 (numbers p) .0) (u ∙ ap (λ (x : ℕ). upper x * 16) (values p)),
+            ap₂ saying (done .0 (numbers p) .1) (l ∙ ap (λ (x : ℕ). lower x * 16) (values p)),
+          ),
+          λ p.
+              ap₂ saying (done .1 (numbers (p .0), numbers (p .1)))
+              (sym (halves-join k) ∙ ap₂ (λ (x y : ℕ). x + y / 16) (values (p .0)) (values (p .1)) ∙ byte-joins v h),
+        );
+        joined = halves-join;
+        busy = number-exactly _ _ _ _ _ _ e;
+        no-such-address = number-exactly _ _ _ _ _ _ f;
+        not-in-range = number-exactly _ _ _ _ _ _ g;
+        never-2 = (neqb→ne _ 2 (t .0), neqb→ne _ 2 (t .1), neqb→ne _ 2 (t .2));
+      }
+
+pub agree-given-exactly : AgreeGivenExactly
+agree-given-exactly _ _ _ (Agree.Done v) = row-exactly _ _ _ refl refl refl refl refl refl (tt, tt, tt)
+agree-given-exactly _ _ _ Agree.Busy = row-exactly _ _ _ refl refl refl refl refl refl (tt, tt, tt)
+agree-given-exactly _ _ _ Agree.NoSuchAddress = row-exactly _ _ _ refl refl refl refl refl refl (tt, tt, tt)
+agree-given-exactly _ _ _ Agree.NotInRange = row-exactly _ _ _ refl refl refl refl refl refl (tt, tt, tt)
