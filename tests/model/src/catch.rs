@@ -1,13 +1,12 @@
 //! The trial of the wrong models: the comparison has to catch every one.
 
-use crate::compare::Run;
+use crate::compare::{Run, What};
 use crate::generator::case::{case, Case};
 use crate::generator::script::{script, Script};
 use crate::model::mend::Written;
 use crate::model::rules::PAPER;
 use crate::programs::{Itself, Printed, Programs};
 use crate::wrong::{self, Wrong};
-use std::ops::Range;
 
 /// A wrong model and the first record or script that caught it.
 struct Caught {
@@ -18,41 +17,35 @@ struct Caught {
 /// Tries the wrong models of the panel on scripts, and all others on records.
 pub fn catch_wrong(run: &Run, programs: &dyn Programs) -> bool {
     let on_records = Trial {
-        what: "record",
-        seed: run.seed,
-        numbers: run.records(),
+        what: What::Record,
+        run,
         input: case,
         printed,
     };
     let on_scripts = Trial {
-        what: "script",
-        seed: run.seed,
-        numbers: run.scripts(),
+        what: What::Script,
+        run,
         input: script,
         printed: called,
     };
-    let tried = [
-        on_records.try_all(programs, wrong::of_records()),
-        on_scripts.try_all(programs, wrong::of_scripts()),
-    ];
-    let sum = |count: fn(&Tried) -> usize| -> usize { tried.iter().map(count).sum() };
+    let records = on_records.try_all(programs, wrong::of_records());
+    let scripts = on_scripts.try_all(programs, wrong::of_scripts());
     println!(
         "model: {} of {} wrong models caught in {} records and {} scripts",
-        sum(|tried| tried.caught),
-        sum(|tried| tried.wrong),
-        tried[0].alike,
-        tried[1].alike
+        records.caught + scripts.caught,
+        records.wrong + scripts.wrong,
+        records.alike,
+        scripts.alike
     );
-    tried
+    [records, scripts]
         .iter()
         .all(|tried| tried.caught == tried.wrong && tried.differing == 0)
 }
 
 /// Inputs of a seed, and what programs print for one.
-struct Trial<Input, Output> {
-    what: &'static str,
-    seed: u64,
-    numbers: Range<u64>,
+struct Trial<'r, Input, Output> {
+    what: What,
+    run: &'r Run,
     input: fn(u64, u64) -> Input,
     printed: fn(&dyn Programs, &Input) -> Output,
 }
@@ -67,17 +60,17 @@ struct Tried {
     differing: usize,
 }
 
-impl<Input, Output: PartialEq> Trial<Input, Output> {
+impl<Input, Output: PartialEq> Trial<'_, Input, Output> {
     /// Runs every wrong model beside the programs until an input catches it: one where the programs
     /// print what the paper's rules say and the wrong model does not.
     fn try_all(self, programs: &dyn Programs, wrong: Vec<&'static Wrong>) -> Tried {
-        let (what, seed) = (self.what, self.seed);
+        let (what, seed) = (self.what.name(), self.run.seed);
         let mut list: Vec<Caught> = wrong
             .into_iter()
             .map(|wrong| Caught { wrong, first: None })
             .collect();
         let mut tried = Tried::default();
-        for number in self.numbers {
+        for number in self.run.numbers(self.what) {
             let input = (self.input)(seed, number);
             let right = (self.printed)(&Itself { rules: &PAPER }, &input);
             if (self.printed)(programs, &input) != right {
@@ -110,8 +103,8 @@ type AllPrinted = (Printed, Printed, Result<Written, String>);
 
 fn printed(programs: &dyn Programs, case: &Case) -> AllPrinted {
     (
-        programs.bench(case),
-        programs.screen(case),
+        programs.bench(&case.shown),
+        programs.screen(&case.shown),
         programs.mend(case),
     )
 }

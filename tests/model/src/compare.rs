@@ -1,52 +1,20 @@
 //! The comparison of the programs with the model, byte by byte.
 
+mod run;
 mod scripts;
+mod seen;
+
+pub use run::{Run, What};
 
 use crate::arguments::arguments_alike;
 use crate::coverage::{Coverage, ENOUGH_RECORDS, ENOUGH_SCRIPTS};
 use crate::difference::{hex, Compared};
 use crate::generator::case::{case, sound, Case};
 use crate::model::rules::Rules;
-use crate::model::screen::Form;
-use crate::programs::{screen_arguments, Itself, Printed, Programs};
+use crate::programs::{Itself, Printed, Programs};
+use run::Teller;
+use seen::{tell_seen, Seen};
 use std::fmt;
-use std::ops::Range;
-
-/// So many differences are told in full; all are counted.
-const TOLD: u64 = 5;
-
-/// A run's seed and how many records and scripts it has.
-pub struct Run {
-    pub seed: u64,
-    pub records: u64,
-    pub scripts: u64,
-    pub only: Option<Only>,
-}
-
-/// One record or one script alone.
-#[derive(Clone, Copy)]
-pub enum Only {
-    Record(u64),
-    Script(u64),
-}
-
-impl Run {
-    pub fn records(&self) -> Range<u64> {
-        match self.only {
-            None => 1..self.records + 1,
-            Some(Only::Record(number)) => number..number + 1,
-            Some(Only::Script(_)) => 0..0,
-        }
-    }
-
-    pub fn scripts(&self) -> Range<u64> {
-        match self.only {
-            None => 1..self.scripts + 1,
-            Some(Only::Record(_)) => 0..0,
-            Some(Only::Script(number)) => number..number + 1,
-        }
-    }
-}
 
 /// Compares a run with the model of these rules; `again` is the command that repeats one record or
 /// script.
@@ -74,16 +42,13 @@ fn compare_records(
 ) -> (Counts, Coverage) {
     let mut coverage = Coverage::of_records();
     let mut counts = Counts::default();
-    let mut told = 0;
-    for number in run.records() {
+    let mut teller = Teller::new(What::Record, run, again);
+    for number in run.numbers(What::Record) {
         let case = case(run.seed, number);
         let (expected, found) = (made(model, &case), made(programs, &case));
         counts.note(&expected, &found);
-        if expected != found && told < TOLD {
-            told += 1;
-            println!("record {number} of seed {} differs", run.seed);
-            tell(&case, expected, found);
-            println!("  again: {again} --seed {} --only {number}", run.seed);
+        if expected != found {
+            teller.tell(number, || tell(&case, expected, found));
         }
         coverage.note(&case);
     }
@@ -93,8 +58,7 @@ fn compare_records(
 /// What the programs make of a case.
 #[derive(PartialEq)]
 struct Made {
-    table: Printed,
-    picture: Printed,
+    seen: Seen,
     mending: Mending,
 }
 
@@ -109,11 +73,12 @@ struct Mending {
 /// All programs at once: starting them is most of a run's time.
 fn made(programs: &dyn Programs, case: &Case) -> Made {
     std::thread::scope(|scope| {
-        let table = scope.spawn(|| programs.bench(case));
+        let table = scope.spawn(|| programs.bench(&case.shown));
         let mending = scope.spawn(|| mending(programs, case));
+        let picture = programs.screen(&case.shown);
+        let table = table.join().expect("a comparison does not panic");
         Made {
-            picture: programs.screen(case),
-            table: table.join().expect("a comparison does not panic"),
+            seen: Seen { table, picture },
             mending: mending.join().expect("a comparison does not panic"),
         }
     })
@@ -136,11 +101,7 @@ fn mending(programs: &dyn Programs, case: &Case) -> Mending {
 }
 
 fn tell(case: &Case, expected: Made, found: Made) {
-    println!("  record (hex): {}", hex(&case.record));
-    Compared::new(expected.table, found.table).tell("bench", false);
-    let arguments = screen_arguments(case, "ROM").join(" ");
-    let image = case.form == Form::Pbm;
-    Compared::new(expected.picture, found.picture).tell(&format!("screen {arguments}"), image);
+    tell_seen(&case.shown, expected.seen, found.seen);
     let (expected, found) = (expected.mending, found.mending);
     if expected != found {
         println!("  capture (hex): {}", hex(&case.capture));
@@ -167,8 +128,9 @@ impl Counts {
     fn note(&mut self, expected: &Made, found: &Made) {
         let mending = expected.mending == found.mending;
         self.records += 1;
-        self.tables += u64::from(expected.table == found.table);
-        self.pictures += u64::from(expected.picture == found.picture);
+        let (seen, due) = (&found.seen, &expected.seen);
+        self.tables += u64::from(seen.table == due.table);
+        self.pictures += u64::from(seen.picture == due.picture);
         self.mendings += u64::from(mending);
         self.mended += u64::from(mending && found.mending.table.is_some());
     }

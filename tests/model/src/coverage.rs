@@ -3,7 +3,7 @@
 mod scripts;
 
 use crate::generator::author::WAITS;
-use crate::generator::case::{end_of, Case, DIGITS};
+use crate::generator::case::{end_of, Case, Shown, DIGITS};
 use crate::generator::damage::DAMAGES;
 use crate::model::mend::{self, Mended, MOST_CAPTURED};
 use crate::model::part::{switched_on, Half, Memory, Part};
@@ -25,7 +25,7 @@ const RANGES: [&str; 9] = [
 const KINDS: [&str; 4] = ["data write", "status read", "data read", "busy status read"];
 
 #[rustfmt::skip]
-const CLASSES: [Group; 14] = [
+const CLASSES: [Group; 11] = [
     ("records", &["sound", "empty record", "full record", "refused 7", "refused 8", "refused 9", "too long"]),
     ("mendings", &["refused 7", "refused 8", "too long", "too long, version not 1", "sound", "nothing dropped, length altered", "bytes dropped, length kept", "bytes dropped, length altered",
         "no event kept", "4096 kept", "4096 kept of more", "event cut", "events behind an ill-formed one", "events behind the length", "12291 bytes", "more than 12291 bytes", "65537 bytes"]),
@@ -35,19 +35,27 @@ const CLASSES: [Group; 14] = [
     ("transfers on eight lines", &KINDS),
     ("transfers on four lines", &KINDS),
     ("reads", &["status with one line", "status with two lines", "data with one line", "data with two lines"]),
-    ("steps with one line", &["4F to 00", "00 to 4F", "3F to 00 of characters", "00 to 3F of characters"]),
-    ("steps with two lines", &["27 to 40", "67 to 00", "00 to 67", "40 to 27", "3F to 00 of characters", "00 to 3F of characters"]),
-    ("shifts", &["79 to 0", "0 to 79", "39 to 0", "0 to 39", "on write, left", "on write, right", "not on a character write"]),
     ("halves", &["waited through", "kept by refusal 1", "another RS", "another R/W", "refusal 3", "refusal 3 by a half of 3", "03 completed by 3", "bus to eight lines"]),
     ("function set", &["one to two lines", "two to one line", "an address that is lost", "a shift that is lost", "N as it was, address not 00", "N as it was, shift not 0"]),
     ("pictures", &["shown", "refused 4", "refused 5", "4 and 5 at once", "one line", "two lines", "11 rows", "plain", "dark", "text", "pbm",
         "display off", "cursor seen", "cursor without blink", "blink seen", "blink without cursor", "cursor of character memory", "28-3F with two lines", "code 00-0F, 8 rows", "code 00-0F, 11 rows", "shift"]),
 ];
 
+/// The ends of both memories and of the shift, passed in either direction, and shift on write.
+#[rustfmt::skip]
+const ENDS: [Group; 3] = [
+    ("steps with one line", &["4F to 00", "00 to 4F", "3F to 00 of characters", "00 to 3F of characters"]),
+    ("steps with two lines", &["27 to 40", "67 to 00", "00 to 67", "40 to 27", "3F to 00 of characters", "00 to 3F of characters"]),
+    ("shifts", &["79 to 0", "0 to 79", "39 to 0", "0 to 39", "on write, left", "on write, right", "not on a character write"]),
+];
+
 /// A group's name and its classes.
 type Group = (&'static str, &'static [&'static str]);
 
 type Class = (&'static str, String);
+
+/// Notes an event, with the part before it, what it was answered and the part behind it.
+type Note = fn(&mut Coverage, &Part, Event, Outcome, &Part);
 
 pub struct Coverage {
     counts: BTreeMap<Class, u64>,
@@ -56,7 +64,7 @@ pub struct Coverage {
 
 impl Coverage {
     pub fn of_records() -> Coverage {
-        let mut order = listed(&CLASSES);
+        let mut order = [listed(&CLASSES), listed(&ENDS)].concat();
         order.extend(DAMAGES.map(|(name, _)| ("damages", name.to_string())));
         order.extend(WAITS.map(|wait| ("waits", wait.to_string())));
         order.extend(DIGITS.map(|digits| ("digits", digits.to_string())));
@@ -115,18 +123,19 @@ impl Coverage {
             self.met("damages", damage);
         }
         self.note_mending(&case.capture);
-        if too_long(case.record.len()) {
+        let record = &case.shown.record;
+        if too_long(record.len()) {
             self.met("records", "too long");
             return;
         }
-        match events(&PAPER, &case.record) {
+        match events(&PAPER, record) {
             Err(number) => self.met("records", format!("refused {number}")),
             Ok(events) => {
                 self.met("records", "sound");
                 self.met_if(events.is_empty(), "records", "empty record");
                 self.met_if(events.len() == MOST_EVENTS, "records", "full record");
-                self.note_events(&events);
-                self.note_picture(case);
+                self.note_each(Self::note_event, &mut switched_on(), &events);
+                self.note_picture(&case.shown);
             }
         }
     }
@@ -174,12 +183,12 @@ impl Coverage {
         self.met_if(capture.len() == MOST_CAPTURED, group, "65537 bytes");
     }
 
-    fn note_events(&mut self, events: &[Event]) {
-        let mut part = switched_on();
+    /// Runs the events on a part and notes each.
+    fn note_each(&mut self, note: Note, part: &mut Part, events: &[Event]) {
         for &event in events {
             let before = part.clone();
-            let outcome = run(&PAPER, &mut part, event);
-            self.note_event(&before, event, outcome, &part);
+            let outcome = run(&PAPER, part, event);
+            note(self, &before, event, outcome, part);
         }
     }
 
@@ -215,16 +224,12 @@ impl Coverage {
         match event.kind {
             INSTRUCTION_WRITE => {
                 let byte = completed(before.half, event.value as u8);
-                let range = (8 - byte.leading_zeros()) as usize;
-                self.met(instructions, RANGES[range]);
+                self.met(instructions, range(byte));
                 self.note_function(before, byte, after);
                 let by_three = before.half.is_some() && byte == 0x03;
                 self.met_if(by_three, "halves", "03 completed by 3");
             }
-            DATA_WRITE => {
-                self.met(transfers, "data write");
-                self.note_shift_on_write(before);
-            }
+            DATA_WRITE => self.met(transfers, "data write"),
             STATUS_READ => {
                 self.met(transfers, "status read");
                 self.met_if(before.busy > 0, transfers, "busy status read");
@@ -232,6 +237,13 @@ impl Coverage {
             _ => self.met(transfers, "data read"),
         }
         self.note_read(before, event);
+        self.note_ends(before, event, after);
+    }
+
+    fn note_ends(&mut self, before: &Part, event: Event, after: &Part) {
+        if event.kind == DATA_WRITE {
+            self.note_shift_on_write(before);
+        }
         self.note_step(before, event, after);
         self.note_shift(before, after);
     }
@@ -242,8 +254,7 @@ impl Coverage {
             DATA_READ => "data",
             _ => return,
         };
-        let lines = ["one line", "two lines"][before.lines() - 1];
-        self.met("reads", format!("{read} with {lines}"));
+        self.met("reads", format!("{read} with {}", line_count(before)));
     }
 
     fn note_function(&mut self, before: &Part, byte: u8, after: &Part) {
@@ -311,9 +322,9 @@ impl Coverage {
         }
     }
 
-    fn note_picture(&mut self, case: &Case) {
-        let part = end_of(&case.record);
-        let view = &case.view;
+    fn note_picture(&mut self, shown: &Shown) {
+        let part = end_of(&shown.record);
+        let view = &shown.view;
         let listed = DIGITS.contains(&view.digits);
         self.met_if(listed, "digits", view.digits);
         let group = "pictures";
@@ -325,7 +336,7 @@ impl Coverage {
         }
         self.met(group, "shown");
         self.met(group, if view.dark { "dark" } else { "plain" });
-        self.met(group, ["text", "pbm"][usize::from(case.form == Form::Pbm)]);
+        self.met(group, ["text", "pbm"][usize::from(shown.form == Form::Pbm)]);
         if part.display_on {
             self.note_dots(&part, view);
         } else {
@@ -336,7 +347,7 @@ impl Coverage {
     fn note_dots(&mut self, part: &Part, view: &View) {
         let group = "pictures";
         let tall = picture::rows(part) == 11;
-        self.met(group, ["one line", "two lines"][part.lines() - 1]);
+        self.met(group, line_count(part));
         self.met_if(tall, group, "11 rows");
         self.met_if(part.shift > 0, group, "shift");
         let digits = 0..usize::from(view.digits);
@@ -367,6 +378,15 @@ fn listed(groups: &[Group]) -> Vec<Class> {
     let classes =
         |&(group, classes): &Group| classes.iter().map(move |class| (group, class.to_string()));
     groups.iter().flat_map(classes).collect()
+}
+
+fn line_count(part: &Part) -> &'static str {
+    ["one line", "two lines"][part.lines() - 1]
+}
+
+/// The range of an instruction: the highest bit that is set decides.
+fn range(byte: u8) -> &'static str {
+    RANGES[(8 - byte.leading_zeros()) as usize]
 }
 
 /// The byte that a write completes.

@@ -12,7 +12,7 @@ mod paper;
 mod programs;
 mod wrong;
 
-use compare::{Only, Run};
+use compare::{Run, What};
 use model::rules::PAPER;
 use programs::{Built, Itself, Programs};
 use std::process::ExitCode;
@@ -100,8 +100,8 @@ impl Options {
                 "--seed" => options.run.seed = number()?,
                 "--records" => options.run.records = number()?,
                 "--scripts" => options.run.scripts = number()?,
-                "--only" => options.run.only = Some(Only::Record(number()?)),
-                "--script" => options.run.only = Some(Only::Script(number()?)),
+                "--only" => options.run.only = Some((What::Record, number()?)),
+                "--script" => options.run.only = Some((What::Script, number()?)),
                 "--wrong" => options.wrong = Some(value.clone()),
                 _ => return Err(USAGE.to_string()),
             }

@@ -414,7 +414,7 @@ fn the_cursor_of_character_memory_marks_display_addresses() {
 #[test]
 fn the_restart_ends_in_one_state_from_any_other() {
     for number in 1..=300 {
-        let mut part = end_of(&case(7, number).record);
+        let mut part = end_of(&case(7, number).shown.record);
         let uppers = [3, 3, 3, 2, 2, 8, 0, 8, 0, 2, 0, 6];
         for (place, upper) in uppers.into_iter().enumerate() {
             let lower = (number as usize + 5 * place) as u8 % 16;

@@ -1,6 +1,6 @@
 //! The four programs under test: the built ones, or the model itself in their place.
 
-use crate::generator::case::Case;
+use crate::generator::case::{Case, Shown};
 use crate::generator::script::Given;
 use crate::model::mend::Written;
 use crate::model::panel::{call, Word};
@@ -23,8 +23,8 @@ const NO_WORDS: &[&str] = &[];
 pub type Printed = Result<Vec<u8>, String>;
 
 pub trait Programs: Sync {
-    fn bench(&self, case: &Case) -> Printed;
-    fn screen(&self, case: &Case) -> Printed;
+    fn bench(&self, shown: &Shown) -> Printed;
+    fn screen(&self, shown: &Shown) -> Printed;
     fn mend(&self, case: &Case) -> Result<Written, String>;
     fn panel(&self, given: &Given) -> Result<Written, String>;
     /// What `bench` prints for a record that another program wrote.
@@ -41,12 +41,12 @@ pub struct Itself<'r> {
 }
 
 impl Programs for Itself<'_> {
-    fn bench(&self, case: &Case) -> Printed {
-        Ok(bench(self.rules, &case.record).into_bytes())
+    fn bench(&self, shown: &Shown) -> Printed {
+        Ok(bench(self.rules, &shown.record).into_bytes())
     }
 
-    fn screen(&self, case: &Case) -> Printed {
-        Ok(screen(self.rules, &case.record, &case.view, case.form))
+    fn screen(&self, shown: &Shown) -> Printed {
+        Ok(screen(self.rules, &shown.record, &shown.view, shown.form))
     }
 
     fn mend(&self, case: &Case) -> Result<Written, String> {
@@ -126,21 +126,21 @@ impl Drop for Built {
 }
 
 impl Programs for Built {
-    fn bench(&self, case: &Case) -> Printed {
-        self.table(&case.record, case.pause)
+    fn bench(&self, shown: &Shown) -> Printed {
+        self.table(&shown.record, shown.pause)
     }
 
-    fn screen(&self, case: &Case) -> Printed {
+    fn screen(&self, shown: &Shown) -> Printed {
         let rom = self.rom();
-        fs::write(&rom, &case.view.rom).map_err(|error| format!("{}: {error}", rom.display()))?;
-        let arguments = screen_arguments(case, &rom.display().to_string());
-        let output = run(&self.screen, &arguments, &case.record, case.pause)?;
+        fs::write(&rom, &shown.view.rom).map_err(|error| format!("{}: {error}", rom.display()))?;
+        let arguments = screen_arguments(shown, &rom.display().to_string());
+        let output = run(&self.screen, &arguments, &shown.record, shown.pause)?;
         ended(&output)?;
         Ok(output.stdout)
     }
 
     fn mend(&self, case: &Case) -> Result<Written, String> {
-        let output = run(&self.mend, NO_WORDS, &case.capture, case.pause)?;
+        let output = run(&self.mend, NO_WORDS, &case.capture, case.shown.pause)?;
         ended_well(&output)?;
         Ok(Written {
             record: output.stdout,
@@ -195,10 +195,10 @@ fn spelled(words: &[Word]) -> Vec<OsString> {
     words.map(OsString::from_vec).collect()
 }
 
-pub fn screen_arguments(case: &Case, rom: &str) -> Vec<String> {
-    let phase = if case.view.dark { "dark" } else { "plain" };
-    let mut arguments = vec![case.view.digits.to_string(), rom.into(), phase.into()];
-    if case.form == Form::Pbm {
+pub fn screen_arguments(shown: &Shown, rom: &str) -> Vec<String> {
+    let phase = if shown.view.dark { "dark" } else { "plain" };
+    let mut arguments = vec![shown.view.digits.to_string(), rom.into(), phase.into()];
+    if shown.form == Form::Pbm {
         arguments.push("pbm".into());
     }
     arguments

@@ -1,6 +1,6 @@
 //! The comparison of `panel`, call by call along the scripts, and of `bench` on where they end.
 
-use super::{Run, TOLD};
+use super::run::{Run, Teller, What};
 use crate::coverage::Coverage;
 use crate::difference::{hex, Compared};
 use crate::generator::script::{script, Script};
@@ -34,16 +34,13 @@ pub fn compare_scripts(
 ) -> (Counts, Coverage) {
     let mut coverage = Coverage::of_scripts();
     let mut counts = Counts::default();
-    let mut told = 0;
-    for number in run.scripts() {
+    let mut teller = Teller::new(What::Script, run, again);
+    for number in run.numbers(What::Script) {
         let script = script(run.seed, number);
         let (expected, found) = (play(model, &script), play(programs, &script));
         counts.note(&expected, &found);
-        if expected != found && told < TOLD {
-            told += 1;
-            println!("script {number} of seed {} differs", run.seed);
-            tell(&script, expected, found);
-            println!("  again: {again} --seed {} --script {number}", run.seed);
+        if expected != found {
+            teller.tell(number, || tell(&script, expected, found));
         }
         coverage.note_script(&script);
     }

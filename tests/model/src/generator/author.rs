@@ -21,9 +21,9 @@ pub struct Author<'r> {
     pub(super) random: &'r mut Random,
     pub(super) part: Part,
     pub(super) events: Vec<Event>,
-    room: usize,
+    pub(super) room: usize,
     /// How often, in percent, a busy part is waited for.
-    patience: usize,
+    pub(super) patience: usize,
     /// How often, in percent, something befalls a half.
     slips: usize,
 }
@@ -32,11 +32,7 @@ pub struct Author<'r> {
 pub fn events(random: &mut Random, room: usize) -> Vec<Event> {
     let mut author = Author::new(random, room.saturating_sub(ROOM_TO_CLOSE));
     author.open();
-    while author.events.len() < author.room {
-        author.act();
-    }
-    author.room = room;
-    author.close();
+    author.close_behind(Author::act, room);
     if room == MOST_EVENTS {
         author.fill();
     }
@@ -56,6 +52,21 @@ impl Author<'_> {
             patience,
             slips,
         }
+    }
+
+    /// Does one thing after the other until there are so many events.
+    pub(super) fn fill_with(&mut self, act: fn(&mut Self), room: usize) {
+        self.room = room;
+        while self.events.len() < room {
+            act(self);
+        }
+    }
+
+    /// The same, with the last of the room kept for the close.
+    pub(super) fn close_behind(&mut self, act: fn(&mut Self), room: usize) {
+        self.fill_with(act, room.saturating_sub(ROOM_TO_CLOSE));
+        self.room = room;
+        self.close();
     }
 
     pub(super) fn push(&mut self, kind: u8, value: u16) {
@@ -153,7 +164,7 @@ impl Author<'_> {
         self.send(DATA_READ, 0);
     }
 
-    fn status(&mut self) {
+    pub(super) fn status(&mut self) {
         self.send(STATUS_READ, 0);
     }
 
@@ -170,12 +181,17 @@ impl Author<'_> {
         };
         let any = self.random.below(4) as u8;
         let kind = self.random.pick(&[own, any]);
-        let value = if kind < STATUS_READ {
+        let value = self.any_value(kind);
+        self.transfer(kind, value);
+    }
+
+    /// Any byte for a write, 0 for a read.
+    pub(super) fn any_value(&mut self, kind: u8) -> u8 {
+        if kind < STATUS_READ {
             self.random.byte()
         } else {
             0
-        };
-        self.transfer(kind, value);
+        }
     }
 
     /// Does something without slips and with all patience.
@@ -186,7 +202,7 @@ impl Author<'_> {
         (self.patience, self.slips) = habits;
     }
 
-    fn open(&mut self) {
+    pub(super) fn open(&mut self) {
         match self.random.below(8) {
             0 => {}
             1 => self.pause(),
@@ -279,6 +295,12 @@ impl Author<'_> {
     }
 
     fn any_instruction(&mut self) {
+        let byte = self.instruction();
+        self.instruct(byte);
+    }
+
+    /// A byte of any range, each as likely.
+    pub(super) fn instruction(&mut self) -> u8 {
         let (first, last) = self.random.pick(&[
             (0x00, 0x00),
             (0x01, 0x01),
@@ -290,8 +312,7 @@ impl Author<'_> {
             (0x40, 0x7F),
             (0x80, 0xFF),
         ]);
-        let byte = self.random.between(first, last) as u8;
-        self.instruct(byte);
+        self.random.between(first, last) as u8
     }
 
     pub(super) fn border_address(&mut self) {
@@ -306,14 +327,14 @@ impl Author<'_> {
         self.random.pick(&[small, any])
     }
 
-    fn text(&mut self) {
+    pub(super) fn text(&mut self) {
         for _ in 0..self.random.between(1, 12) {
             let code = self.code();
             self.write(code);
         }
     }
 
-    fn read_on(&mut self) {
+    pub(super) fn read_on(&mut self) {
         let count = self.random.pick(&[1, 2, 5, 10, 80]);
         for _ in 0..count {
             self.read();
@@ -321,7 +342,7 @@ impl Author<'_> {
     }
 
     /// Over a border of either memory, in either direction, by writes, reads and steps.
-    fn cross_border(&mut self) {
+    pub(super) fn cross_border(&mut self) {
         if self.random.percent(70) {
             self.entry_mode();
         }
@@ -397,8 +418,17 @@ impl Author<'_> {
         }
     }
 
+    /// The function byte's bit that keeps N as it is.
+    pub(super) fn line_count(&self) -> u8 {
+        if self.part.two_lines {
+            0x08
+        } else {
+            0x00
+        }
+    }
+
     fn change_line_count(&mut self) {
-        let line_count = if self.part.two_lines { 0x00 } else { 0x08 };
+        let line_count = self.line_count() ^ 0x08;
         let rest = self.random.byte() & 0x07;
         if self.random.percent(60) {
             self.border_address();
@@ -410,9 +440,8 @@ impl Author<'_> {
 
     fn change_bus(&mut self) {
         let bus = if self.part.eight_lines { 0x20 } else { 0x30 };
-        let kept = if self.part.two_lines { 0x08 } else { 0x00 };
         let any = self.random.byte() & 0x0F;
-        let rest = self.random.pick(&[kept, any]);
+        let rest = self.random.pick(&[self.line_count(), any]);
         self.instruct(bus | rest);
     }
 
@@ -451,12 +480,12 @@ impl Author<'_> {
         self.instruct(settings);
     }
 
-    fn entry_mode(&mut self) {
+    pub(super) fn entry_mode(&mut self) {
         let mode = self.random.byte() & 0x03;
         self.instruct(0x04 | mode);
     }
 
-    fn home_or_clear(&mut self) {
+    pub(super) fn home_or_clear(&mut self) {
         let byte = self.random.pick(&[0x01, 0x02, 0x03]);
         self.instruct(byte);
         if self.random.percent(50) {
@@ -468,11 +497,7 @@ impl Author<'_> {
     /// A half alone, or on eight lines a byte alone.
     fn stray_half(&mut self) {
         let kind = self.random.below(4) as u8;
-        let value = if kind < STATUS_READ {
-            self.random.byte()
-        } else {
-            0
-        };
+        let value = self.any_value(kind);
         self.transfer(kind, value);
         if self.random.percent(40) {
             self.pause();
@@ -487,11 +512,7 @@ impl Author<'_> {
         self.instruct(0x00);
         for _ in 0..self.random.between(1, 4) {
             let kind = self.random.below(4) as u8;
-            let value = if kind < STATUS_READ {
-                self.random.byte()
-            } else {
-                0
-            };
+            let value = self.any_value(kind);
             self.push(kind, u16::from(value));
         }
     }

@@ -12,15 +12,21 @@ use crate::model::screen::Form;
 pub const DIGITS: [u8; 12] = [0, 1, 16, 20, 24, 39, 40, 41, 79, 80, 81, 255];
 
 pub struct Case {
-    pub record: Vec<u8>,
+    pub shown: Shown,
     /// The damage's name, or nothing for a sound record.
     pub damage: Option<&'static str>,
+    /// What is mended: the record, or a sound one damaged.
+    pub capture: Vec<u8>,
+}
+
+/// A record, and how the state that it ends in is looked at.
+#[derive(Clone)]
+pub struct Shown {
+    pub record: Vec<u8>,
     /// Where the input pauses, so that it arrives in two pieces.
     pub pause: Option<usize>,
     pub view: View,
     pub form: Form,
-    /// What is mended: the record, or a sound one damaged.
-    pub capture: Vec<u8>,
 }
 
 /// The case of a seed with this number.
@@ -33,21 +39,28 @@ pub fn case(seed: u64, number: u64) -> Case {
         let room = room(random);
         (record(&author::events(random, room)), None)
     };
-    let most = if end_of(&record).two_lines { 40 } else { 80 };
-    let pause = random
-        .percent(10)
-        .then(|| random.below(record.len().max(1)));
+    let shown = shown(random, record);
     Case {
+        capture: capture(random, &shown.record, damage.is_some()),
+        shown,
+        damage,
+    }
+}
+
+/// A record with any view of the state that it ends in.
+pub fn shown(random: &mut Random, record: Vec<u8>) -> Shown {
+    let most = if end_of(&record).two_lines { 40 } else { 80 };
+    Shown {
+        pause: random
+            .percent(10)
+            .then(|| random.below(record.len().max(1))),
         view: View {
             digits: digits(random, most),
             rom: rom(random),
             dark: random.percent(50),
         },
         form: random.pick(&[Form::Text, Form::Pbm]),
-        capture: capture(random, &record, damage.is_some()),
         record,
-        damage,
-        pause,
     }
 }
 
