@@ -1,5 +1,6 @@
 //! The comparison of the programs with the model, byte by byte.
 
+pub mod pairs;
 mod run;
 mod scripts;
 mod seen;
@@ -7,7 +8,7 @@ mod seen;
 pub use run::{Run, What};
 
 use crate::arguments::arguments_alike;
-use crate::coverage::{Coverage, ENOUGH_RECORDS, ENOUGH_SCRIPTS};
+use crate::coverage::{Coverage, ENOUGH_PAIRS, ENOUGH_RECORDS, ENOUGH_SCRIPTS};
 use crate::difference::{hex, Compared};
 use crate::generator::case::{case, sound, Case};
 use crate::model::rules::Rules;
@@ -16,21 +17,23 @@ use run::Teller;
 use seen::{tell_seen, Seen};
 use std::fmt;
 
-/// Compares a run with the model of these rules; `again` is the command that repeats one record or
-/// script.
+/// Compares a run with the model of these rules; `again` is the command that repeats one record,
+/// script or pair.
 pub fn compare(run: &Run, programs: &dyn Programs, rules: &Rules, again: &str) -> bool {
     let model = Itself { rules };
     let (counts, coverage) = compare_records(run, programs, &model, again);
     let (scripts, script_coverage) = scripts::compare_scripts(run, programs, &model, again);
-    let mut alike = counts.all_alike() && scripts.all_alike();
-    alike &= counts.records + scripts.scripts > 0;
+    let (pairs, pair_coverage) = pairs::compare_pairs(run, programs, &model, again);
+    let mut alike = counts.all_alike() && scripts.all_alike() && pairs.all_alike();
+    alike &= counts.records + scripts.scripts + pairs.pairs > 0;
     if run.only.is_none() {
         alike &= coverage.covered(counts.records >= ENOUGH_RECORDS);
         alike &= script_coverage.covered(scripts.scripts >= ENOUGH_SCRIPTS);
+        alike &= pair_coverage.covered(pairs.pairs >= ENOUGH_PAIRS);
         alike &= counts.enough_mended();
         alike &= arguments_alike(programs);
     }
-    println!("model: {counts}; {scripts}");
+    println!("model: {counts}; {scripts}; {pairs}");
     alike
 }
 

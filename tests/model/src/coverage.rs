@@ -1,5 +1,7 @@
-//! What the records of a run have met, and what they should have met; its scripts likewise.
+//! What the records of a run have met, and what they should have met; its scripts and pairs
+//! likewise.
 
+mod pairs;
 mod scripts;
 
 use crate::generator::author::WAITS;
@@ -14,9 +16,10 @@ use crate::model::screen::Form;
 use crate::model::transfer::Outcome;
 use std::collections::BTreeMap;
 
-/// Below so many records, or scripts, a run need not meet every class of theirs.
+/// Below so many records, scripts or pairs, a run need not meet every class of theirs.
 pub const ENOUGH_RECORDS: u64 = 1000;
 pub const ENOUGH_SCRIPTS: u64 = 500;
+pub const ENOUGH_PAIRS: u64 = 300;
 
 const RANGES: [&str; 9] = [
     "00", "01", "02-03", "04-07", "08-0F", "10-1F", "20-3F", "40-7F", "80-FF",
@@ -58,6 +61,8 @@ type Class = (&'static str, String);
 type Note = fn(&mut Coverage, &Part, Event, Outcome, &Part);
 
 pub struct Coverage {
+    /// Told before the groups whose names would not say what they are of.
+    of: &'static str,
     counts: BTreeMap<Class, u64>,
     order: Vec<Class>,
 }
@@ -68,12 +73,12 @@ impl Coverage {
         order.extend(DAMAGES.map(|(name, _)| ("damages", name.to_string())));
         order.extend(WAITS.map(|wait| ("waits", wait.to_string())));
         order.extend(DIGITS.map(|digits| ("digits", digits.to_string())));
-        Coverage::of(order)
+        Coverage::new("", order)
     }
 
-    fn of(order: Vec<Class>) -> Coverage {
+    fn new(of: &'static str, order: Vec<Class>) -> Coverage {
         let counts = order.iter().map(|class| (class.clone(), 0)).collect();
-        Coverage { counts, order }
+        Coverage { of, counts, order }
     }
 
     fn met(&mut self, group: &'static str, class: impl ToString) {
@@ -103,7 +108,7 @@ impl Coverage {
             let counts: Vec<String> = classes
                 .map(|class| format!("{}: {}", class.1, self.counts[class]))
                 .collect();
-            println!("{group} | {}", counts.join(" | "));
+            println!("{}{group} | {}", self.of, counts.join(" | "));
         }
     }
 
@@ -113,7 +118,7 @@ impl Coverage {
         let missed = self.order.iter().filter(|class| self.counts[class] == 0);
         let missed: Vec<&Class> = missed.filter(|_| enough).collect();
         for (group, class) in &missed {
-            println!("never met: {group}, {class}");
+            println!("never met: {}{group}, {class}", self.of);
         }
         missed.is_empty()
     }

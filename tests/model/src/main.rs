@@ -6,6 +6,7 @@ mod compare;
 mod coverage;
 mod difference;
 mod generator;
+mod joining;
 mod model;
 #[cfg(test)]
 mod paper;
@@ -18,9 +19,9 @@ use programs::{Built, Itself, Programs};
 use std::process::ExitCode;
 
 const USAGE: &str = "\
-usage: model compare BENCH SCREEN MEND PANEL [--seed S] [--records N] [--scripts N]
-                     [--only NUMBER | --script NUMBER] [--wrong NAME]
-       model wrong [BENCH SCREEN MEND PANEL] [--seed S] [--records N] [--scripts N]
+usage: model compare BENCH SCREEN MEND PANEL [--seed S] [--records N] [--scripts N] [--pairs N]
+                     [--only NUMBER | --script NUMBER | --pair NUMBER] [--wrong NAME]
+       model wrong [BENCH SCREEN MEND PANEL] [--seed S] [--records N] [--scripts N] [--pairs N]
        model names";
 
 fn main() -> ExitCode {
@@ -84,6 +85,7 @@ impl Options {
                 seed: 1,
                 records: 2000,
                 scripts: 500,
+                pairs: 300,
                 only: None,
             },
             wrong: None,
@@ -100,8 +102,10 @@ impl Options {
                 "--seed" => options.run.seed = number()?,
                 "--records" => options.run.records = number()?,
                 "--scripts" => options.run.scripts = number()?,
+                "--pairs" => options.run.pairs = number()?,
                 "--only" => options.run.only = Some((What::Record, number()?)),
                 "--script" => options.run.only = Some((What::Script, number()?)),
+                "--pair" => options.run.only = Some((What::Pair, number()?)),
                 "--wrong" => options.wrong = Some(value.clone()),
                 _ => return Err(USAGE.to_string()),
             }
@@ -109,7 +113,7 @@ impl Options {
         Ok(options)
     }
 
-    /// The command that repeats one record or script, but for its seed and number.
+    /// The command that repeats one record, script or pair, but for its seed and number.
     fn again(&self) -> String {
         let wrong = self.wrong.iter().map(|name| format!(" --wrong {name}"));
         let wrong: String = wrong.collect();

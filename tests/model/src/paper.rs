@@ -2,6 +2,7 @@
 
 mod mending;
 mod panel;
+mod wiring;
 
 use crate::compare::{compare, Run};
 use crate::generator::case::{case, end_of};
@@ -490,6 +491,7 @@ fn the_generator_meets_every_class() {
         seed: 3,
         records: 2000,
         scripts: 500,
+        pairs: 300,
         only: None,
     };
     assert!(compare(&run, &Itself { rules: &PAPER }, &PAPER, ""));

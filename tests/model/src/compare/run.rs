@@ -10,6 +10,7 @@ const TOLD: u64 = 5;
 pub enum What {
     Record,
     Script,
+    Pair,
 }
 
 impl What {
@@ -17,6 +18,7 @@ impl What {
         match self {
             What::Record => "record",
             What::Script => "script",
+            What::Pair => "pair",
         }
     }
 
@@ -25,6 +27,7 @@ impl What {
         match self {
             What::Record => "--only",
             What::Script => "--script",
+            What::Pair => "--pair",
         }
     }
 }
@@ -33,6 +36,7 @@ pub struct Run {
     pub seed: u64,
     pub records: u64,
     pub scripts: u64,
+    pub pairs: u64,
     /// The number of one that is asked for alone.
     pub only: Option<(What, u64)>,
 }
@@ -42,6 +46,7 @@ impl Run {
         let count = match what {
             What::Record => self.records,
             What::Script => self.scripts,
+            What::Pair => self.pairs,
         };
         match self.only {
             None => 1..count + 1,

@@ -26,7 +26,7 @@ const CLASSES: [Group; 7] = [
 
 impl Coverage {
     pub fn of_scripts() -> Coverage {
-        Coverage::of(listed(&CLASSES))
+        Coverage::new("", listed(&CLASSES))
     }
 
     pub fn note_script(&mut self, script: &Script) {
