@@ -1,20 +1,23 @@
 //! The trial of the wrong models: the comparison has to catch every one.
 
+use crate::compare::pairs::told;
 use crate::compare::{Run, What};
 use crate::generator::case::{case, Case};
+use crate::generator::pair::{pair, Pair};
 use crate::generator::script::{script, Script};
 use crate::model::mend::Written;
 use crate::model::rules::PAPER;
 use crate::programs::{Itself, Printed, Programs};
 use crate::wrong::{self, Wrong};
 
-/// A wrong model and the first record or script that caught it.
+/// A wrong model and the first record, script or pair that caught it.
 struct Caught {
     wrong: &'static Wrong,
     first: Option<u64>,
 }
 
-/// Tries the wrong models of the panel on scripts, and all others on records.
+/// Tries the wrong models of the panel on scripts, and all others on records; those of the wiring
+/// once more on pairs, by joining alone.
 pub fn catch_wrong(run: &Run, programs: &dyn Programs) -> bool {
     let on_records = Trial {
         what: What::Record,
@@ -28,16 +31,27 @@ pub fn catch_wrong(run: &Run, programs: &dyn Programs) -> bool {
         input: script,
         printed: called,
     };
+    let on_pairs = Trial {
+        what: What::Pair,
+        run,
+        input: pair,
+        printed: joins,
+    };
     let records = on_records.try_all(programs, wrong::of_records());
     let scripts = on_scripts.try_all(programs, wrong::of_scripts());
+    let pairs = on_pairs.try_all(programs, wrong::of_pairs());
     println!(
-        "model: {} of {} wrong models caught in {} records and {} scripts",
+        "model: {} of {} wrong models caught in {} records and {} scripts, \
+         {} of {} by joining {} pairs",
         records.caught + scripts.caught,
         records.wrong + scripts.wrong,
         records.alike,
-        scripts.alike
+        scripts.alike,
+        pairs.caught,
+        pairs.wrong,
+        pairs.alike
     );
-    [records, scripts]
+    [records, scripts, pairs]
         .iter()
         .all(|tried| tried.caught == tried.wrong && tried.differing == 0)
 }
@@ -112,4 +126,8 @@ fn printed(programs: &dyn Programs, case: &Case) -> AllPrinted {
 fn called(programs: &dyn Programs, script: &Script) -> Vec<Result<Written, String>> {
     let calls = script.calls.iter();
     calls.map(|given| programs.panel(given)).collect()
+}
+
+fn joins(programs: &dyn Programs, pair: &Pair) -> bool {
+    told(programs, pair).joined(pair).is_ok()
 }

@@ -7,6 +7,7 @@ mod mends;
 mod panels;
 mod pictures;
 mod records;
+mod wirings;
 
 use crate::model::rules::Rules;
 
@@ -30,6 +31,7 @@ pub fn of_records() -> Vec<&'static Wrong> {
         counters::LIST,
         instructions::LIST,
         halves::LIST,
+        wirings::LIST,
         pictures::LIST,
         records::LIST,
         mends::LIST,
@@ -40,6 +42,11 @@ pub fn of_records() -> Vec<&'static Wrong> {
 /// Those that scripts catch.
 pub fn of_scripts() -> Vec<&'static Wrong> {
     panels::LIST.iter().collect()
+}
+
+/// Those of `of_records` that pairs catch too, by joining alone.
+pub fn of_pairs() -> Vec<&'static Wrong> {
+    wirings::LIST.iter().collect()
 }
 
 pub fn all() -> Vec<&'static Wrong> {

@@ -1,0 +1,595 @@
+//! Wrong models of the wiring: a story on four lines is then another than on eight, so that joining
+//! alone catches each of them.
+
+use super::Wrong;
+use crate::model::counter::*;
+use crate::model::halves::*;
+use crate::model::instruction::*;
+use crate::model::part::{Half, Memory, Part};
+use crate::model::rules::{Rules, PAPER};
+use crate::model::transfer::*;
+
+pub const LIST: &[Wrong] = &[
+    Wrong {
+        name: "restart-drops-half",
+        rules: Rules {
+            transfer: |rules, part, bus| {
+                let restarts = matches!(bus, Transfer::Instruction(0x30..=0x3F));
+                if restarts && part.half.is_some_and(|half| half.upper != 3) {
+                    part.half = None;
+                }
+                transfer(rules, part, bus)
+            },
+            ..PAPER
+        },
+    },
+    Wrong {
+        name: "refused-write-waits-as-half",
+        rules: Rules {
+            transfer: |rules, part, bus| {
+                let outcome = transfer(rules, part, bus);
+                if outcome.answer == 1 && !bus.read() && !part.eight_lines {
+                    part.half = Some(first_of(bus));
+                }
+                outcome
+            },
+            ..PAPER
+        },
+    },
+    Wrong {
+        name: "first-half-taken-when-busy",
+        rules: Rules {
+            refused_busy: |part, bus| refused_busy(part, bus) && !awaits_first(part),
+            ..PAPER
+        },
+    },
+    Wrong {
+        name: "first-status-half-refused-when-busy",
+        rules: Rules {
+            refused_busy: |part, bus| {
+                refused_busy(part, bus) || part.busy > 0 && awaits_first(part)
+            },
+            ..PAPER
+        },
+    },
+    Wrong {
+        name: "second-status-half-refused-when-busy",
+        rules: Rules {
+            refused_busy: |part, bus| {
+                refused_busy(part, bus) || part.busy > 0 && part.half.is_some()
+            },
+            ..PAPER
+        },
+    },
+    Wrong {
+        name: "refused-read-half-answers-byte",
+        rules: Rules {
+            transfer: |rules, part, bus| {
+                let byte = whole(rules, &mut part.clone(), bus).value;
+                let outcome = transfer(rules, part, bus);
+                match (outcome.answer, part.eight_lines) {
+                    (1, false) => Outcome {
+                        value: byte & 0xF0,
+                        ..outcome
+                    },
+                    _ => outcome,
+                }
+            },
+            ..PAPER
+        },
+    },
+    Wrong {
+        name: "first-half-costs-ticks",
+        rules: Rules {
+            first_half: |rules, part, bus| {
+                let outcome = first_half(rules, part, bus);
+                part.busy = part.busy.max(10);
+                outcome
+            },
+            ..PAPER
+        },
+    },
+    Wrong {
+        name: "first-read-half-acts",
+        rules: Rules {
+            first_half: |rules, part, bus| {
+                let outcome = first_half(rules, part, bus);
+                if bus.read() {
+                    whole(rules, part, bus);
+                }
+                outcome
+            },
+            ..PAPER
+        },
+    },
+    Wrong {
+        name: "first-read-half-steps",
+        rules: Rules {
+            first_half: |rules, part, bus| {
+                let outcome = first_half(rules, part, bus);
+                if bus == Transfer::Read {
+                    step(rules, part, part.up);
+                }
+                outcome
+            },
+            ..PAPER
+        },
+    },
+    Wrong {
+        name: "first-write-half-steps",
+        rules: Rules {
+            first_half: |rules, part, bus| {
+                if bus.rs() && !bus.read() {
+                    step(rules, part, part.up);
+                }
+                first_half(rules, part, bus)
+            },
+            ..PAPER
+        },
+    },
+    Wrong {
+        name: "first-write-half-acts",
+        rules: Rules {
+            first_half: |rules, part, bus| {
+                if !bus.read() {
+                    whole(rules, part, bus.of(bus.lines() & 0xF0));
+                    part.busy = 0;
+                }
+                first_half(rules, part, bus)
+            },
+            ..PAPER
+        },
+    },
+    Wrong {
+        name: "first-read-half-uncut",
+        rules: Rules {
+            first_half: |rules, part, bus| {
+                let value = whole(rules, &mut part.clone(), bus).value;
+                let outcome = first_half(rules, part, bus);
+                Outcome { value, ..outcome }
+            },
+            ..PAPER
+        },
+    },
+    Wrong {
+        name: "first-read-half-is-lower",
+        rules: Rules {
+            first_half: |rules, part, bus| {
+                let lower = whole(rules, &mut part.clone(), bus).value << 4;
+                let outcome = first_half(rules, part, bus);
+                Outcome {
+                    value: if bus.read() { lower } else { 0 },
+                    ..outcome
+                }
+            },
+            ..PAPER
+        },
+    },
+    Wrong {
+        name: "first-status-half-without-address",
+        rules: Rules {
+            first_half: |rules, part, bus| {
+                let outcome = first_half(rules, part, bus);
+                let kept = if bus == Transfer::Status { 0x80 } else { 0xF0 };
+                Outcome {
+                    value: outcome.value & kept,
+                    ..outcome
+                }
+            },
+            ..PAPER
+        },
+    },
+    Wrong {
+        name: "first-status-half-without-busy",
+        rules: Rules {
+            first_half: |rules, part, bus| {
+                let outcome = first_half(rules, part, bus);
+                let kept = if bus == Transfer::Status { 0x70 } else { 0xF0 };
+                Outcome {
+                    value: outcome.value & kept,
+                    ..outcome
+                }
+            },
+            ..PAPER
+        },
+    },
+    Wrong {
+        name: "refusal-3-at-first-half",
+        rules: Rules {
+            first_half: |rules, part, bus| match bus {
+                Transfer::Instruction(0x80..=0xFF)
+                    if !has_address(part.two_lines, bus.lines() & 0x70) =>
+                {
+                    refused(3)
+                }
+                _ => first_half(rules, part, bus),
+            },
+            ..PAPER
+        },
+    },
+    Wrong {
+        name: "lower-lines-of-first-half-leak",
+        rules: Rules {
+            first_half: |rules, part, bus| {
+                let leaked = bus.lines() | bus.lines() << 4;
+                first_half(rules, part, bus.of(leaked))
+            },
+            ..PAPER
+        },
+    },
+    Wrong {
+        name: "lower-lines-of-second-half-leak",
+        rules: Rules {
+            second_half: |rules, part, half, bus| {
+                let leaked = bus.lines() | bus.lines() << 4;
+                second_half(rules, part, half, bus.of(leaked))
+            },
+            ..PAPER
+        },
+    },
+    Wrong {
+        name: "lower-lines-count",
+        rules: Rules {
+            second_half: |rules, part, half, bus| {
+                second_half(rules, part, half, bus.of(bus.lines() << 4))
+            },
+            ..PAPER
+        },
+    },
+    Wrong {
+        name: "lower-half-first",
+        rules: Rules {
+            second_half: |rules, part, half, bus| {
+                let exchanged = Half {
+                    upper: bus.lines() >> 4,
+                    ..half
+                };
+                second_half(rules, part, exchanged, bus.of(half.upper << 4))
+            },
+            ..PAPER
+        },
+    },
+    Wrong {
+        name: "lower-half-acts-alone",
+        rules: Rules {
+            second_half: |rules, part, half, bus| {
+                let alone = Half { upper: 0, ..half };
+                second_half(rules, part, alone, bus)
+            },
+            ..PAPER
+        },
+    },
+    Wrong {
+        name: "upper-half-acts-alone",
+        rules: Rules {
+            second_half: |rules, part, half, bus| second_half(rules, part, half, bus.of(0)),
+            ..PAPER
+        },
+    },
+    Wrong {
+        name: "second-read-half-in-low-bits",
+        rules: Rules {
+            second_half: |rules, part, half, bus| {
+                let outcome = second_half(rules, part, half, bus);
+                Outcome {
+                    value: outcome.value >> 4,
+                    ..outcome
+                }
+            },
+            ..PAPER
+        },
+    },
+    Wrong {
+        name: "second-read-half-is-upper-again",
+        rules: Rules {
+            second_half: |rules, part, half, bus| {
+                let upper = whole(rules, &mut part.clone(), bus).value & 0xF0;
+                let outcome = second_half(rules, part, half, bus);
+                Outcome {
+                    value: if bus.read() { upper } else { 0 },
+                    ..outcome
+                }
+            },
+            ..PAPER
+        },
+    },
+    Wrong {
+        name: "read-halves-exchanged",
+        rules: Rules {
+            whole: |rules, part, bus| {
+                let outcome = whole(rules, part, bus);
+                match part.eight_lines {
+                    true => outcome,
+                    false => Outcome {
+                        value: outcome.value.rotate_left(4),
+                        ..outcome
+                    },
+                }
+            },
+            ..PAPER
+        },
+    },
+    Wrong {
+        name: "refusal-3-keeps-half",
+        rules: Rules {
+            second_half: |rules, part, half, bus| {
+                let outcome = second_half(rules, part, half, bus);
+                if outcome.answer == 3 {
+                    part.half = Some(half);
+                }
+                outcome
+            },
+            ..PAPER
+        },
+    },
+    Wrong {
+        name: "function-set-keeps-half",
+        rules: Rules {
+            second_half: |rules, part, half, bus| {
+                let outcome = second_half(rules, part, half, bus);
+                if !half.rs && !half.read && matches!(half.upper, 2 | 3) {
+                    part.half = Some(half);
+                }
+                outcome
+            },
+            ..PAPER
+        },
+    },
+    Wrong {
+        name: "ticks-twice-on-four-lines",
+        rules: Rules {
+            second_half: |rules, part, half, bus| {
+                let outcome = second_half(rules, part, half, bus);
+                if bus != Transfer::Status {
+                    part.busy *= 2;
+                }
+                outcome
+            },
+            ..PAPER
+        },
+    },
+    Wrong {
+        name: "no-ticks-on-four-lines",
+        rules: Rules {
+            second_half: |rules, part, half, bus| {
+                let outcome = second_half(rules, part, half, bus);
+                if bus != Transfer::Status {
+                    part.busy = 0;
+                }
+                outcome
+            },
+            ..PAPER
+        },
+    },
+    Wrong {
+        name: "data-of-20-to-3f-sets-function-on-four-lines",
+        rules: Rules {
+            second_half: |rules, part, half, bus| {
+                let sets = half.rs && !half.read && matches!(half.upper, 2 | 3);
+                let bus = if sets {
+                    Transfer::Instruction(bus.lines())
+                } else {
+                    bus
+                };
+                second_half(rules, part, half, bus)
+            },
+            ..PAPER
+        },
+    },
+    Wrong {
+        name: "n-lost-on-four-lines",
+        rules: Rules {
+            function: |part, byte| {
+                let kept = if bit(byte, 4) { byte } else { byte & 0xF7 };
+                function(part, kept);
+            },
+            ..PAPER
+        },
+    },
+    Wrong {
+        name: "f-lost-on-four-lines",
+        rules: Rules {
+            function: |part, byte| {
+                function(part, byte);
+                part.tall &= part.eight_lines;
+            },
+            ..PAPER
+        },
+    },
+    Wrong {
+        name: "address-lost-on-four-lines",
+        rules: Rules {
+            function: |part, byte| {
+                function(part, byte);
+                if !part.eight_lines {
+                    point(part, Memory::Display, 0x00);
+                }
+            },
+            ..PAPER
+        },
+    },
+    Wrong {
+        name: "any-address-taken-on-four-lines",
+        rules: Rules {
+            second_half: |_, part, half, bus| {
+                let rules = Rules {
+                    has_address: |_, _| true,
+                    ..PAPER
+                };
+                second_half(&rules, part, half, bus)
+            },
+            ..PAPER
+        },
+    },
+    Wrong {
+        name: "display-stays-off-on-four-lines",
+        rules: Rules {
+            second_half: |_, part, half, bus| {
+                let rules = Rules {
+                    settings: |part, byte| settings(part, byte & 0x03),
+                    ..PAPER
+                };
+                second_half(&rules, part, half, bus)
+            },
+            ..PAPER
+        },
+    },
+    Wrong {
+        name: "no-shift-on-write-on-four-lines",
+        rules: Rules {
+            second_half: |_, part, half, bus| {
+                let rules = Rules {
+                    write_data: |rules, part, byte| {
+                        let shift = part.shift;
+                        write_data(rules, part, byte);
+                        part.shift = shift;
+                    },
+                    ..PAPER
+                };
+                second_half(&rules, part, half, bus)
+            },
+            ..PAPER
+        },
+    },
+    Wrong {
+        name: "write-does-not-step-on-four-lines",
+        rules: Rules {
+            second_half: |_, part, half, bus| {
+                let rules = Rules {
+                    write_data: |rules, part, byte| {
+                        let address = part.address;
+                        write_data(rules, part, byte);
+                        part.address = address;
+                    },
+                    ..PAPER
+                };
+                second_half(&rules, part, half, bus)
+            },
+            ..PAPER
+        },
+    },
+    Wrong {
+        name: "read-does-not-step-on-four-lines",
+        rules: Rules {
+            second_half: |_, part, half, bus| {
+                let rules = Rules {
+                    read_data: |rules, part| {
+                        let address = part.address;
+                        let byte = read_data(rules, part);
+                        part.address = address;
+                        byte
+                    },
+                    ..PAPER
+                };
+                second_half(&rules, part, half, bus)
+            },
+            ..PAPER
+        },
+    },
+    // Wrong on four lines alone.
+    Wrong {
+        name: "27-to-28-on-four-lines",
+        rules: Rules {
+            second_half: |_, part, half, bus| second_half_of("27-to-28", part, half, bus),
+            ..PAPER
+        },
+    },
+    Wrong {
+        name: "shift-stops-at-0-on-four-lines",
+        rules: Rules {
+            second_half: |_, part, half, bus| second_half_of("shift-stops-at-0", part, half, bus),
+            ..PAPER
+        },
+    },
+    Wrong {
+        name: "00-takes-no-ticks-on-four-lines",
+        rules: Rules {
+            second_half: |_, part, half, bus| second_half_of("00-takes-no-ticks", part, half, bus),
+            ..PAPER
+        },
+    },
+    Wrong {
+        name: "home-takes-10-ticks-on-four-lines",
+        rules: Rules {
+            second_half: |_, part, half, bus| {
+                second_half_of("home-takes-10-ticks", part, half, bus)
+            },
+            ..PAPER
+        },
+    },
+    Wrong {
+        name: "home-keeps-shift-on-four-lines",
+        rules: Rules {
+            second_half: |_, part, half, bus| second_half_of("home-keeps-shift", part, half, bus),
+            ..PAPER
+        },
+    },
+    Wrong {
+        name: "clear-leaves-direction-on-four-lines",
+        rules: Rules {
+            second_half: |_, part, half, bus| {
+                second_half_of("clear-leaves-direction", part, half, bus)
+            },
+            ..PAPER
+        },
+    },
+    Wrong {
+        name: "refusal-3-takes-ticks-on-four-lines",
+        rules: Rules {
+            second_half: |_, part, half, bus| {
+                second_half_of("refusal-3-takes-ticks", part, half, bus)
+            },
+            ..PAPER
+        },
+    },
+    Wrong {
+        name: "status-takes-ticks-on-four-lines",
+        rules: Rules {
+            second_half: |_, part, half, bus| second_half_of("status-takes-ticks", part, half, bus),
+            ..PAPER
+        },
+    },
+    Wrong {
+        name: "reads-move-display-on-four-lines",
+        rules: Rules {
+            second_half: |_, part, half, bus| second_half_of("reads-move-display", part, half, bus),
+            ..PAPER
+        },
+    },
+    Wrong {
+        name: "writes-step-up-only-on-four-lines",
+        rules: Rules {
+            second_half: |_, part, half, bus| {
+                second_half_of("writes-step-up-only", part, half, bus)
+            },
+            ..PAPER
+        },
+    },
+    Wrong {
+        name: "character-memory-holds-five-bits-on-four-lines",
+        rules: Rules {
+            second_half: |_, part, half, bus| {
+                second_half_of("character-memory-holds-five-bits", part, half, bus)
+            },
+            ..PAPER
+        },
+    },
+];
+
+fn awaits_first(part: &Part) -> bool {
+    !part.eight_lines && part.half.is_none()
+}
+
+fn first_of(bus: Transfer) -> Half {
+    Half {
+        rs: bus.rs(),
+        read: bus.read(),
+        upper: bus.lines() >> 4,
+    }
+}
+
+/// The second half of another wrong model.
+fn second_half_of(name: &str, part: &mut Part, half: Half, bus: Transfer) -> Outcome {
+    let wrong = super::named(name).expect("a wrong model of this name");
+    second_half(&wrong.rules, part, half, bus)
+}
