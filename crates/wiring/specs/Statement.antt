@@ -19,7 +19,7 @@ use Rattle.event.specs.declared.Kind.the-variants.{InstructionWrite}
 use Rattle.wiring.specs.Words.{EqualButForLines, HalvesOf, LikeHalves, secondOf, isFunctionSet, Agree, AgreeExactly}
 
 -- ---- one transfer
--- what the eight-line part is told of it, and the part on four lines of its first and its second half
+-- what the eight-line part is told of it, and the other, `four`, of its first and its second half
 pub record SameTransfer (four : Controller) (whole first second : Told) : Type 0 where
   pub answers : Agree (whole .said) (first .said) (second .said)
   -- the first half changes nothing but the half that waits,

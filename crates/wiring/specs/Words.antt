@@ -49,6 +49,7 @@ abbrev pub secondOf : Controller → Kind → (first second : ℕ) → Told
 secondOf c k first second = transferOf (transferOf c k first .controller) k second
 
 -- ---- without a function set (20-3F)
+-- an instruction write of 20 to 3F; a data write of such a byte is none
 abbrev pub isFunctionSet : Kind → ℕ → Bool
 isFunctionSet InstructionWrite n = leb 0x20 n && leb n 0x3F
 isFunctionSet DataWrite n = false
