@@ -32,8 +32,8 @@ byte-joins v h = omega arith
 
 -- ---- one row
 module _ (eight first second : Said) (u : first .value ≡ upper (eight .value) * 16) (l : second .value ≡ lower (eight .value) * 16) where
-  halves-join : eight .value < 256 → first .value + second .value / 16 ≡ eight .value
-  halves-join h = ap₂ (λ (x y : ℕ). x + y / 16) u l ∙ byte-joins (eight .value) h
+  values-join : eight .value < 256 → first .value + second .value / 16 ≡ eight .value
+  values-join h = ap₂ (λ (x y : ℕ). x + y / 16) u l ∙ byte-joins (eight .value) h
 
   row-exactly : eqb (eight .number) 0 ≡ eqb (first .number) 20 && eqb (second .number) 0
       → eqb (eight .number) 1 ≡ eqb (first .number) 1 && eqb (second .number) 1
@@ -50,9 +50,9 @@ module _ (eight first second : Said) (u : first .value ≡ upper (eight .value) 
           ),
           λ p.
               ap₂ saying (done .1 (numbers (p .0), numbers (p .1)))
-              (sym (halves-join k) ∙ ap₂ (λ (x y : ℕ). x + y / 16) (values (p .0)) (values (p .1)) ∙ byte-joins v h),
+              (sym (values-join k) ∙ ap₂ (λ (x y : ℕ). x + y / 16) (values (p .0)) (values (p .1)) ∙ byte-joins v h),
         );
-        joined = halves-join;
+        joined = values-join;
         busy = number-exactly _ _ _ _ _ _ e;
         no-such-address = number-exactly _ _ _ _ _ _ f;
         not-in-range = number-exactly _ _ _ _ _ _ g;

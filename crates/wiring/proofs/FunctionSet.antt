@@ -24,17 +24,17 @@ use Rattle.wiring.proofs.Halves.{of-halves}
 use Rattle.wiring.proofs.Same.{of-wired, transfer-tells-the-same}
 
 -- a part is not equal but for the line count to itself
-not-to-itself : (eight four : Controller) → four ≡ eight → ¬ EqualButForLines eight four
+not-equal-to-itself : (eight four : Controller) → four ≡ eight → ¬ EqualButForLines eight four
 unfolding isFour
-not-to-itself eight four e f = false≢true (four-of (sym (f .eight-lines)) ∙ four-of (sym e) ∙ four-of (f .four-lines))
+not-equal-to-itself eight four e f = false≢true (four-of (sym (f .eight-lines)) ∙ four-of (sym e) ∙ four-of (f .four-lines))
   where
     four-of : {c d : Controller} → c ≡ d → isFour (c .registers .bus) ≡ isFour (d .registers .bus)
     four-of e = ap (λ (c : Controller). isFour (c .registers .bus)) e
 
 -- ---- every function set
-set-is-same : (c : Controller) (n : ℕ) → T (isFunctionSet InstructionWrite n) → acted (wired Four c) InstructionWrite n .controller ≡ acted (wired Eight c) InstructionWrite n .controller
+set-leaves-the-same : (c : Controller) (n : ℕ) → T (isFunctionSet InstructionWrite n) → acted (wired Four c) InstructionWrite n .controller ≡ acted (wired Eight c) InstructionWrite n .controller
 unfolding act obey rearranged
-set-is-same c n t =
+set-leaves-the-same c n t =
     let l : 0x20 ≤ n = leb→le 0x20 n (and-left (leb 0x20 n) (leb n 0x3F) t) in
     let u : n ≤ 0x3F = leb→le n 0x3F (and-right (leb 0x20 n) (leb n 0x3F) t) in
     let set = decoded-by-range n .set l (omega arith) in
@@ -47,19 +47,19 @@ function-set-makes-one eight four e n first second h t =
     (of-halves eight InstructionWrite n first second (λ w. h) (λ whole _ last. whole .said .number ≡ 0 → last .controller ≡ whole .controller)
     (λ z. absurd (omega (arith, z)))
     (λ z. absurd (omega (arith, z)))
-    (λ z. set-is-same eight n t))
+    (λ z. set-leaves-the-same eight n t))
 
 -- ---- and nothing else
-none-is-left : (eight four : Controller) → EqualButForLines eight four → (k : Kind) (n first second : ℕ) → LikeHalves k n first second → transferOf eight k n .said .number ≡ 0
+no-set-where-equal : (eight four : Controller) → EqualButForLines eight four → (k : Kind) (n first second : ℕ) → LikeHalves k n first second → transferOf eight k n .said .number ≡ 0
     → EqualButForLines (transferOf eight k n .controller) (secondOf four k first second .controller) → T (not (isFunctionSet k n))
-none-is-left eight four e InstructionWrite n first second h z f =
-    not-T (isFunctionSet InstructionWrite n) (λ t. not-to-itself _ _ (function-set-makes-one eight four e n first second (h tt) t z) f)
-none-is-left eight four e DataWrite n first second h z f = tt
-none-is-left eight four e StatusRead n first second h z f = tt
-none-is-left eight four e DataRead n first second h z f = tt
+no-set-where-equal eight four e InstructionWrite n first second h z f =
+    not-T (isFunctionSet InstructionWrite n) (λ t. not-equal-to-itself _ _ (function-set-makes-one eight four e n first second (h tt) t z) f)
+no-set-where-equal eight four e DataWrite n first second h z f = tt
+no-set-where-equal eight four e StatusRead n first second h z f = tt
+no-set-where-equal eight four e DataRead n first second h z f = tt
 
 pub left-out-exactly : LeftOutExactly
-left-out-exactly eight four e k n first second h z = (none-is-left eight four e k n first second h z, λ t. transfer-tells-the-same eight four e k n first second h t .equal)
+left-out-exactly eight four e k n first second h z = (no-set-where-equal eight four e k n first second h z, λ t. transfer-tells-the-same eight four e k n first second h t .equal)
 
 -- ---- 20 hex
 pub function-set-example : FunctionSetExample

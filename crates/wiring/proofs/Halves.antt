@@ -30,13 +30,13 @@ use Rattle.wiring.specs.Words.{wired, HalvesOf, LikeHalves, secondOf}
 
 -- ---- refused with 16 or 1
 module _ (c : Controller) (k : Kind) (n : ℕ) where
-  outside : inRange (c .registers) ≡ false → transferOf c k n ≡ unchanged 16 c
+  refused-with-16 : inRange (c .registers) ≡ false → transferOf c k n ≡ unchanged 16 c
   unfolding transferOf
-  outside e = ap (λ (b : Bool). cond b (stepped c k n) (unchanged 16 c)) e
+  refused-with-16 e = ap (λ (b : Bool). cond b (stepped c k n) (unchanged 16 c)) e
 
-  busy : inRange (c .registers) ≡ true → refusedBusy (c .registers) k ≡ true → transferOf c k n ≡ unchanged 1 c
+  refused-with-1 : inRange (c .registers) ≡ true → refusedBusy (c .registers) k ≡ true → transferOf c k n ≡ unchanged 1 c
   unfolding displayAfter characterAfter
-  busy e f = transfer-steps c k n (holds (inRange (c .registers)) e) ∙ ap (carried c) (busy-leaves-all (c .registers) k n (addressed c) f)
+  refused-with-1 e f = transfer-steps c k n (holds (inRange (c .registers)) e) ∙ ap (carried c) (busy-leaves-all (c .registers) k n (addressed c) f)
 
 -- ---- the halves complete the byte
 halves-join : (n first second : ℕ) → HalvesOf n first second → upper first * 16 + upper second ≡ n
@@ -102,6 +102,6 @@ module _ (c : Controller) (k : Kind) (n first second : ℕ) (like : LikeHalves k
       where
         by-tests : (t u : Bool) → inRange (eight .registers) ≡ t → refusedBusy (eight .registers) k ≡ u
             → P (transferOf eight k n) (transferOf four k first) (secondOf four k first second)
-        by-tests false u e f = by-told (outside eight k n e) (outside four k first e) (outside four k second e) p
-        by-tests true true e f = by-told (busy eight k n e f) (busy four k first e f) (busy four k second e f) q
+        by-tests false u e f = by-told (refused-with-16 eight k n e) (refused-with-16 four k first e) (refused-with-16 four k second e) p
+        by-tests true true e f = by-told (refused-with-1 eight k n e f) (refused-with-1 four k first e f) (refused-with-1 four k second e f) q
         by-tests true false e f = by-told (whole-acts e f) (first-waits e f) (second-acts e f) r

@@ -43,12 +43,12 @@ values-agree StatusRead r n b = Agree.Done (readOf StatusRead r b)
 values-agree DataRead r n b = Agree.Done b
 
 -- the value that is read does not matter to what is left
-value-leaves : (c : Controller) (k : Kind) (n v w : ℕ) → carried c (act k (c .registers) n v) .controller ≡ carried c (act k (c .registers) n w) .controller
+value-leaves-the-same : (c : Controller) (k : Kind) (n v w : ℕ) → carried c (act k (c .registers) n v) .controller ≡ carried c (act k (c .registers) n w) .controller
 unfolding act readStatus readData
-value-leaves c InstructionWrite n v w = refl
-value-leaves c DataWrite n v w = refl
-value-leaves c StatusRead n v w = refl
-value-leaves c DataRead n v w = refl
+value-leaves-the-same c InstructionWrite n v w = refl
+value-leaves-the-same c DataWrite n v w = refl
+value-leaves-the-same c StatusRead n v w = refl
+value-leaves-the-same c DataRead n v w = refl
 
 module _ (c : Controller) (k : Kind) (n first : ℕ) where
   -- what the byte comes to where the value v is read
@@ -66,7 +66,7 @@ module _ (c : Controller) (k : Kind) (n first : ℕ) where
   comes-the-same = record {
     answers = values-agree k (c .registers) n (addressed c);
     between = refl;
-    equal = subst⁻¹ (λ (x : Controller). EqualButForLines (wired Eight left) (wired Four x)) (value-leaves c k n (lower value * 16) value) (wired-equal left);
+    equal = subst⁻¹ (λ (x : Controller). EqualButForLines (wired Eight left) (wired Four x)) (value-leaves-the-same c k n (lower value * 16) value) (wired-equal left);
   }
 
   acting-tells-the-same : (T (not (isRead k)) → n < 256) → T (not (isFunctionSet k n))
