@@ -21,7 +21,7 @@ use Rattle.step.specs.Data.{act}
 use Rattle.wiring.specs.Statement.{FunctionSetMakesOne, LeftOutExactly, board, FunctionSetExample}
 use Rattle.wiring.specs.Words.{onLines, wired, EqualButForLines, HalvesOf, LikeHalves, secondOf, isFunctionSet}
 use Rattle.wiring.proofs.Halves.{of-halves}
-use Rattle.wiring.proofs.Same.{of-wired, transfer-tells-the-same}
+use Rattle.wiring.proofs.Same.{of-wired, wired-equal, transfer-tells-the-same}
 
 -- a part is not equal but for the line count to itself
 not-equal-to-itself : (eight four : Controller) → four ≡ eight → ¬ EqualButForLines eight four
@@ -65,7 +65,7 @@ left-out-exactly eight four e k n first second h z = (no-set-where-equal eight f
 pub function-set-example : FunctionSetExample
 unfolding rules
 function-set-example =
-    let before : EqualButForLines (board 0x38) (board 0x28) = record { eight-lines = refl; four-lines = refl } in
+    let before : EqualButForLines (board 0x38) (board 0x28) = wired-equal (board 0x38) in
     let halves : HalvesOf 0x20 0x20 0x00 = record { byte = lit≤ tt; upper-half = refl; lower-half = refl } in
     record {
       before = before;

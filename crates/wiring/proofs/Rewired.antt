@@ -27,8 +27,8 @@ use Rattle.step.specs.Data.{writeData, readData, readStatus, act}
 use Rattle.wiring.specs.Words.{onLines, wired, isFunctionSet}
 
 -- a result on so many lines
-abbrev pub rewired : LineCount → Result → Result
-rewired b s = record { said = s .said; registers = onLines b (s .registers); change = s .change }
+abbrev pub resultOn : LineCount → Result → Result
+resultOn b s = record { said = s .said; registers = onLines b (s .registers); change = s .change }
 
 -- ---- instructions
 abbrev setsLines : Instruction → Bool
@@ -49,12 +49,12 @@ others-keep-lines n h =
     implies (not (isFunctionSet InstructionWrite n)) (not (setsLines (decode n)))
     (each (λ m. not (isFunctionSet InstructionWrite m) ⇒ not (setsLines (decode m))) 256 tt n h)
 
-choice-rewired : (b : LineCount) (t : Bool) (x y : Result) → cond t (rewired b x) (rewired b y) ≡ rewired b (cond t x y)
+choice-rewired : (b : LineCount) (t : Bool) (x y : Result) → cond t (resultOn b x) (resultOn b y) ≡ resultOn b (cond t x y)
 choice-rewired b true x y = refl
 choice-rewired b false x y = refl
 
 module _ (b : LineCount) (r : Registers) where
-  obey-rewired : (i : Instruction) → T (not (setsLines i)) → obey i (onLines b r) ≡ rewired b (obey i r)
+  obey-rewired : (i : Instruction) → T (not (setsLines i)) → obey i (onLines b r) ≡ resultOn b (obey i r)
   unfolding obey moved
   obey-rewired Nothing t = refl
   obey-rewired Clear t = refl
@@ -68,7 +68,7 @@ module _ (b : LineCount) (r : Registers) where
   obey-rewired (SetDisplay a) t = choice-rewired b (not (hasDisplay (r .mode .lines) a)) _ _
 
   -- ---- whole bytes
-  act-rewired : (k : Kind) (n v : ℕ) → (T (not (isRead k)) → n < 256) → T (not (isFunctionSet k n)) → act k (onLines b r) n v ≡ rewired b (act k r n v)
+  act-rewired : (k : Kind) (n v : ℕ) → (T (not (isRead k)) → n < 256) → T (not (isFunctionSet k n)) → act k (onLines b r) n v ≡ resultOn b (act k r n v)
   unfolding act writeData readStatus readData
   act-rewired InstructionWrite n v h t = obey-rewired (decode n) (others-keep-lines n (h tt) t)
   act-rewired DataWrite n v h t =
@@ -79,7 +79,7 @@ module _ (b : LineCount) (r : Registers) where
 
 -- given to the part on so many lines
 pub acted-rewired : (b : LineCount) (c : Controller) (k : Kind) (n : ℕ) → (T (not (isRead k)) → n < 256) → T (not (isFunctionSet k n))
-    → acted (wired b c) k n ≡ carried (wired b c) (rewired b (act k (c .registers) n (answered b (readFrom c k))))
+    → acted (wired b c) k n ≡ carried (wired b c) (resultOn b (act k (c .registers) n (answered b (readFrom c k))))
 acted-rewired b c k n h t =
     ap (λ (v : ℕ). carried (wired b c) (act k (onLines b (c .registers)) n (answered b v))) (read-rewired (c .registers) b Half.Nothing k (addressed c))
     ∙ ap (carried (wired b c)) (act-rewired b (c .registers) k n (answered b (readFrom c k)) h t)

@@ -5,7 +5,7 @@ use mathlib.Core.Bool.{Bool, true, false, cond, not}
 use mathlib.Core.Path.{_≡_, refl, subst⁻¹}
 use Rattle.bus.specs.Transfer.{transferOf, waitedTold, waitOf}
 use Rattle.condition.proofs.Tests.{split}
-use Rattle.controller.specs.Answers.{saying}
+use Rattle.controller.specs.Answers.{saying, refused}
 use Rattle.controller.specs.Part.{waited, inRange}
 use Rattle.controller.specs.Result.{Result}
 use Rattle.controller.specs.Told.{addressed, carried, unchanged}
@@ -22,13 +22,13 @@ use Rattle.step.specs.Data.{writeData, readData, readStatus, readOf, act}
 use Rattle.wiring.specs.Statement.{SameTransfer, TransferTellsTheSame, SameWait, WaitTellsTheSame}
 use Rattle.wiring.specs.Words.{wired, EqualButForLines, secondOf, isFunctionSet, Agree}
 use Rattle.wiring.proofs.Halves.{taken, by-equal, of-halves}
-use Rattle.wiring.proofs.Rewired.{rewired, acted-rewired}
+use Rattle.wiring.proofs.Rewired.{resultOn, acted-rewired}
 
 -- what holds of a part on eight lines and on four holds of two parts equal but for the line count
 pub of-wired : (P : (eight four : Controller) → Type 0) (eight four : Controller) → EqualButForLines eight four → P (wired Eight eight) (wired Four eight) → P eight four
 of-wired P eight four e p = subst⁻¹ (P eight) (e .four-lines) (subst⁻¹ (λ (x : Controller). P x (wired Four eight)) (e .eight-lines) p)
 
-wired-equal : (c : Controller) → EqualButForLines (wired Eight c) (wired Four c)
+pub wired-equal : (c : Controller) → EqualButForLines (wired Eight c) (wired Four c)
 wired-equal c = record { eight-lines = refl; four-lines = refl }
 
 -- ---- what is answered, and what is left
@@ -61,8 +61,8 @@ module _ (c : Controller) (k : Kind) (n first : ℕ) where
   abbrev left : Controller
   left = carried c (comes value) .controller
 
-  comes-the-same : SameTransfer (wired Four c) (carried (wired Eight c) (rewired Eight (comes value))) (taken c k first)
-      (carried (wired Four c) (rewired Four (comes (lower value * 16))))
+  comes-the-same : SameTransfer (wired Four c) (carried (wired Eight c) (resultOn Eight (comes value))) (taken c k first)
+      (carried (wired Four c) (resultOn Four (comes (lower value * 16))))
   comes-the-same = record {
     answers = values-agree k (c .registers) n (addressed c);
     between = refl;
@@ -74,12 +74,17 @@ module _ (c : Controller) (k : Kind) (n first : ℕ) where
   unfolding answered
   acting-tells-the-same h t = by-equal (SameTransfer (wired Four c)) (acted-rewired Eight c k n h t) refl (acted-rewired Four c k n h t) comes-the-same
 
+-- a refusal that leaves both parts as they were
+refusal-tells-the-same : (c : Controller) (n : ℕ) → Agree (refused n) (refused n) (refused n)
+    → SameTransfer (wired Four c) (unchanged n (wired Eight c)) (unchanged n (wired Four c)) (unchanged n (wired Four c))
+refusal-tells-the-same c n a = record { answers = a; between = refl; equal = wired-equal c }
+
 pub transfer-tells-the-same : TransferTellsTheSame
 transfer-tells-the-same eight four e k n first second like t =
     of-wired (λ x y. SameTransfer y (transferOf x k n) (transferOf y k first) (secondOf y k first second)) eight four e
     (of-halves eight k n first second like (SameTransfer (wired Four eight))
-    (record { answers = Agree.NotInRange; between = refl; equal = wired-equal eight })
-    (record { answers = Agree.Busy; between = refl; equal = wired-equal eight })
+    (refusal-tells-the-same eight 16 Agree.NotInRange)
+    (refusal-tells-the-same eight 1 Agree.Busy)
     (acting-tells-the-same eight k n first (λ w. like w .byte) t))
 
 -- ---- a wait

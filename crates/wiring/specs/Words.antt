@@ -1,4 +1,4 @@
--- The words of the statement: equal but for the line count; the same, as two like halves; a function set; answers that agree.
+-- The words of the statement, in the request's order: equal but for the line count; without a function set; the same, as two like halves; answers that agree.
 use Prim.Native.Nat.{ℕ, _+_, _*_, _/_, _<_}
 use lib.Dec.{T, leb}
 use mathlib.Core.Bool.{Bool, false, _&&_, not}
@@ -33,6 +33,14 @@ pub record EqualButForLines (eight four : Controller) : Type 0 where
   -- the same part on four lines, and no half waits
   pub four-lines : four ≡ wired Four eight
 
+-- ---- without a function set (20-3F)
+-- an instruction write of 20 to 3F; a data write of such a byte is none
+abbrev pub isFunctionSet : Kind → ℕ → Bool
+isFunctionSet InstructionWrite n = leb 0x20 n && leb n 0x3F
+isFunctionSet DataWrite n = false
+isFunctionSet StatusRead n = false
+isFunctionSet DataRead n = false
+
 -- ---- the same, as two like halves
 -- the byte n: its upper half, then its lower half on the upper four lines, whatever the lower four lines hold in either
 pub record HalvesOf (n first second : ℕ) : Type 0 where
@@ -47,14 +55,6 @@ LikeHalves k n first second = T (not (isRead k)) → HalvesOf n first second
 -- what the second half is told, given behind the first
 abbrev pub secondOf : Controller → Kind → (first second : ℕ) → Told
 secondOf c k first second = transferOf (transferOf c k first .controller) k second
-
--- ---- without a function set (20-3F)
--- an instruction write of 20 to 3F; a data write of such a byte is none
-abbrev pub isFunctionSet : Kind → ℕ → Bool
-isFunctionSet InstructionWrite n = leb 0x20 n && leb n 0x3F
-isFunctionSet DataWrite n = false
-isFunctionSet StatusRead n = false
-isFunctionSet DataRead n = false
 
 -- ---- refusals agree, bytes read agree once the halves are joined
 -- what eight lines are answered, and beside it the two halves on four: these are all cases
