@@ -9,6 +9,31 @@ use crate::model::part::{Half, Memory, Part};
 use crate::model::rules::{Rules, PAPER};
 use crate::model::transfer::*;
 
+/// A wrong model whose second halves alone go by a wrong rule: by this one, or by that of the wrong
+/// model of records with this name.
+macro_rules! on_four_lines {
+    ($name:literal, $rule:ident: $wrong:expr) => {
+        on_four_lines!(
+            $name by Rules {
+                $rule: $wrong,
+                ..PAPER
+            }
+        )
+    };
+    ($name:literal) => {
+        on_four_lines!($name by super::named($name).expect("a wrong model of this name").rules)
+    };
+    ($name:literal by $rules:expr) => {
+        Wrong {
+            name: concat!($name, "-on-four-lines"),
+            rules: Rules {
+                second_half: |_, part, half, bus| second_half(&$rules, part, half, bus),
+                ..PAPER
+            },
+        }
+    };
+}
+
 pub const LIST: &[Wrong] = &[
     Wrong {
         name: "restart-drops-half",
@@ -168,28 +193,14 @@ pub const LIST: &[Wrong] = &[
     Wrong {
         name: "first-status-half-without-address",
         rules: Rules {
-            first_half: |rules, part, bus| {
-                let outcome = first_half(rules, part, bus);
-                let kept = if bus == Transfer::Status { 0x80 } else { 0xF0 };
-                Outcome {
-                    value: outcome.value & kept,
-                    ..outcome
-                }
-            },
+            first_half: |rules, part, bus| first_half_of_status(rules, part, bus, 0x80),
             ..PAPER
         },
     },
     Wrong {
         name: "first-status-half-without-busy",
         rules: Rules {
-            first_half: |rules, part, bus| {
-                let outcome = first_half(rules, part, bus);
-                let kept = if bus == Transfer::Status { 0x70 } else { 0xF0 };
-                Outcome {
-                    value: outcome.value & kept,
-                    ..outcome
-                }
-            },
+            first_half: |rules, part, bus| first_half_of_status(rules, part, bus, 0x70),
             ..PAPER
         },
     },
@@ -210,20 +221,14 @@ pub const LIST: &[Wrong] = &[
     Wrong {
         name: "lower-lines-of-first-half-leak",
         rules: Rules {
-            first_half: |rules, part, bus| {
-                let leaked = bus.lines() | bus.lines() << 4;
-                first_half(rules, part, bus.of(leaked))
-            },
+            first_half: |rules, part, bus| first_half(rules, part, leaked(bus)),
             ..PAPER
         },
     },
     Wrong {
         name: "lower-lines-of-second-half-leak",
         rules: Rules {
-            second_half: |rules, part, half, bus| {
-                let leaked = bus.lines() | bus.lines() << 4;
-                second_half(rules, part, half, bus.of(leaked))
-            },
+            second_half: |rules, part, half, bus| second_half(rules, part, half, leaked(bus)),
             ..PAPER
         },
     },
@@ -408,172 +413,35 @@ pub const LIST: &[Wrong] = &[
             ..PAPER
         },
     },
-    Wrong {
-        name: "any-address-taken-on-four-lines",
-        rules: Rules {
-            second_half: |_, part, half, bus| {
-                let rules = Rules {
-                    has_address: |_, _| true,
-                    ..PAPER
-                };
-                second_half(&rules, part, half, bus)
-            },
-            ..PAPER
-        },
-    },
-    Wrong {
-        name: "display-stays-off-on-four-lines",
-        rules: Rules {
-            second_half: |_, part, half, bus| {
-                let rules = Rules {
-                    settings: |part, byte| settings(part, byte & 0x03),
-                    ..PAPER
-                };
-                second_half(&rules, part, half, bus)
-            },
-            ..PAPER
-        },
-    },
-    Wrong {
-        name: "no-shift-on-write-on-four-lines",
-        rules: Rules {
-            second_half: |_, part, half, bus| {
-                let rules = Rules {
-                    write_data: |rules, part, byte| {
-                        let shift = part.shift;
-                        write_data(rules, part, byte);
-                        part.shift = shift;
-                    },
-                    ..PAPER
-                };
-                second_half(&rules, part, half, bus)
-            },
-            ..PAPER
-        },
-    },
-    Wrong {
-        name: "write-does-not-step-on-four-lines",
-        rules: Rules {
-            second_half: |_, part, half, bus| {
-                let rules = Rules {
-                    write_data: |rules, part, byte| {
-                        let address = part.address;
-                        write_data(rules, part, byte);
-                        part.address = address;
-                    },
-                    ..PAPER
-                };
-                second_half(&rules, part, half, bus)
-            },
-            ..PAPER
-        },
-    },
-    Wrong {
-        name: "read-does-not-step-on-four-lines",
-        rules: Rules {
-            second_half: |_, part, half, bus| {
-                let rules = Rules {
-                    read_data: |rules, part| {
-                        let address = part.address;
-                        let byte = read_data(rules, part);
-                        part.address = address;
-                        byte
-                    },
-                    ..PAPER
-                };
-                second_half(&rules, part, half, bus)
-            },
-            ..PAPER
-        },
-    },
-    // Wrong on four lines alone.
-    Wrong {
-        name: "27-to-28-on-four-lines",
-        rules: Rules {
-            second_half: |_, part, half, bus| second_half_of("27-to-28", part, half, bus),
-            ..PAPER
-        },
-    },
-    Wrong {
-        name: "shift-stops-at-0-on-four-lines",
-        rules: Rules {
-            second_half: |_, part, half, bus| second_half_of("shift-stops-at-0", part, half, bus),
-            ..PAPER
-        },
-    },
-    Wrong {
-        name: "00-takes-no-ticks-on-four-lines",
-        rules: Rules {
-            second_half: |_, part, half, bus| second_half_of("00-takes-no-ticks", part, half, bus),
-            ..PAPER
-        },
-    },
-    Wrong {
-        name: "home-takes-10-ticks-on-four-lines",
-        rules: Rules {
-            second_half: |_, part, half, bus| {
-                second_half_of("home-takes-10-ticks", part, half, bus)
-            },
-            ..PAPER
-        },
-    },
-    Wrong {
-        name: "home-keeps-shift-on-four-lines",
-        rules: Rules {
-            second_half: |_, part, half, bus| second_half_of("home-keeps-shift", part, half, bus),
-            ..PAPER
-        },
-    },
-    Wrong {
-        name: "clear-leaves-direction-on-four-lines",
-        rules: Rules {
-            second_half: |_, part, half, bus| {
-                second_half_of("clear-leaves-direction", part, half, bus)
-            },
-            ..PAPER
-        },
-    },
-    Wrong {
-        name: "refusal-3-takes-ticks-on-four-lines",
-        rules: Rules {
-            second_half: |_, part, half, bus| {
-                second_half_of("refusal-3-takes-ticks", part, half, bus)
-            },
-            ..PAPER
-        },
-    },
-    Wrong {
-        name: "status-takes-ticks-on-four-lines",
-        rules: Rules {
-            second_half: |_, part, half, bus| second_half_of("status-takes-ticks", part, half, bus),
-            ..PAPER
-        },
-    },
-    Wrong {
-        name: "reads-move-display-on-four-lines",
-        rules: Rules {
-            second_half: |_, part, half, bus| second_half_of("reads-move-display", part, half, bus),
-            ..PAPER
-        },
-    },
-    Wrong {
-        name: "writes-step-up-only-on-four-lines",
-        rules: Rules {
-            second_half: |_, part, half, bus| {
-                second_half_of("writes-step-up-only", part, half, bus)
-            },
-            ..PAPER
-        },
-    },
-    Wrong {
-        name: "character-memory-holds-five-bits-on-four-lines",
-        rules: Rules {
-            second_half: |_, part, half, bus| {
-                second_half_of("character-memory-holds-five-bits", part, half, bus)
-            },
-            ..PAPER
-        },
-    },
+    on_four_lines!("any-address-taken", has_address: |_, _| true),
+    on_four_lines!("display-stays-off", settings: |part, byte| settings(part, byte & 0x03)),
+    on_four_lines!("no-shift-on-write", write_data: |rules, part, byte| {
+        let shift = part.shift;
+        write_data(rules, part, byte);
+        part.shift = shift;
+    }),
+    on_four_lines!("write-does-not-step", write_data: |rules, part, byte| {
+        let address = part.address;
+        write_data(rules, part, byte);
+        part.address = address;
+    }),
+    on_four_lines!("read-does-not-step", read_data: |rules, part| {
+        let address = part.address;
+        let byte = read_data(rules, part);
+        part.address = address;
+        byte
+    }),
+    on_four_lines!("27-to-28"),
+    on_four_lines!("shift-stops-at-0"),
+    on_four_lines!("00-takes-no-ticks"),
+    on_four_lines!("home-takes-10-ticks"),
+    on_four_lines!("home-keeps-shift"),
+    on_four_lines!("clear-leaves-direction"),
+    on_four_lines!("refusal-3-takes-ticks"),
+    on_four_lines!("status-takes-ticks"),
+    on_four_lines!("reads-move-display"),
+    on_four_lines!("writes-step-up-only"),
+    on_four_lines!("character-memory-holds-five-bits"),
 ];
 
 fn awaits_first(part: &Part) -> bool {
@@ -588,8 +456,17 @@ fn first_of(bus: Transfer) -> Half {
     }
 }
 
-/// The second half of another wrong model.
-fn second_half_of(name: &str, part: &mut Part, half: Half, bus: Transfer) -> Outcome {
-    let wrong = super::named(name).expect("a wrong model of this name");
-    second_half(&wrong.rules, part, half, bus)
+/// Of a status read only these bits are answered with the first half.
+fn first_half_of_status(rules: &Rules, part: &mut Part, bus: Transfer, kept: u8) -> Outcome {
+    let outcome = first_half(rules, part, bus);
+    let kept = if bus == Transfer::Status { kept } else { 0xF0 };
+    Outcome {
+        value: outcome.value & kept,
+        ..outcome
+    }
+}
+
+/// The lower lines are seen on the upper ones too.
+fn leaked(bus: Transfer) -> Transfer {
+    bus.of(bus.lines() | bus.lines() << 4)
 }
