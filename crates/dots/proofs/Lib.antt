@@ -1,3 +1,4 @@
 pub mod Columns
 pub mod Marks
 pub mod Dots
+pub mod Stretches

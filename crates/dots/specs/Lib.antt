@@ -1,3 +1,4 @@
 pub mod Digit
+pub mod Stretches
 pub mod Dots
 pub mod Contracts

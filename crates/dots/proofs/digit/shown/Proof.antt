@@ -1,47 +1,61 @@
--- Each line mode bounds shift, line and digit, so that the sums fit and the cell exists.
-use Prim.Native.Nat.{_<_}
+-- The line's length is the line mode's, so that the sums fit and the cell exists; each stretch is the rule's by its law.
+use Prim.Native.Nat.{_+_, _*_, _≤_}
 use borrow.Author.Needs.{needs}
+use mathlib.Core.Logic.{⊎-elim}
+use mathlib.Core.Path.{_≡_, ap}
 use native.Mathlib.Omega.{arith}
-use Rattle.size.specs.Size.{linesOf, mostDigits}
-use Rattle.dots.specs.Digit.{shownOn}
+use Rattle.counters.specs.Address.{cell}
+use Rattle.size.specs.Size.{mostDigits}
+use Rattle.dots.proofs.Stretches.{before-end, from-end, lines-fit}
 use Rattle.dots.proofs.digit.shown.Statement.{statement}
 use Rattle.dots.proofs.digit.shown.Tie as tie
 
--- what each line mode has of the requires
-one-line : (c : tie.After-enum-told) → (c .before .before .args .shift .0 < 80) × (c .before .before .args .line < 1) × (c .before .before .args .digit < 80)
-unfolding linesOf mostDigits
-one-line c = rw (c .enum-told .given .1) at (c .before .before .pre)
+line-length : (c : tie.At-match-came) → c .match .length ≡ mostDigits (c .before .args .lines)
+unfolding mostDigits
+line-length c = ⊎-elim (λ w. rw (w .1 .given .1) (omega (arith, w .2))) (λ w. rw (w .1 .given .1) (omega (arith, w .2))) (c .match .came)
 
-two-lines : (c : tie.After-enum-told2) → (c .before .before .args .shift .0 < 40) × (c .before .before .args .line < 2) × (c .before .before .args .digit < 40)
-unfolding linesOf mostDigits
-two-lines c = rw (c .enum-told2 .given .1) at (c .before .before .pre)
+-- the line has room for every digit
+room : (c : tie.At-match-came) → 40 * c .before .args .line + c .match .length ≤ 80
+room c = rw (line-length c) (lines-fit _ _ (search needs))
 
 enum-told : tie.Need-enum-told
 enum-told c = search needs
 
-add-t7 : tie.Need-add-t7
-add-t7 c = omega (arith, one-line c)
-
 enum-told-2 : tie.Need-enum-told-2
 enum-told-2 c = search needs
 
-mul-t9 : tie.Need-mul-t9
-mul-t9 c = omega (arith, two-lines c)
+sub-end : tie.Need-sub-end
+sub-end c = omega (arith, line-length (c .before))
 
-add-t10 : tie.Need-add-t10
-add-t10 c = omega (arith, two-lines c)
+mul-t11 : tie.Need-mul-t11
+mul-t11 c = omega (arith, room (c .before .before))
 
 add-t12 : tie.Need-add-t12
-add-t12 c = omega (arith, two-lines c)
+add-t12 c = omega (arith, room (c .before .before))
+
+add-t13 : tie.Need-add-t13
+add-t13 c = omega (arith, room (c .before .before))
+
+mul-t14 : tie.Need-mul-t14
+mul-t14 c = omega (arith, room (c .before .before))
+
+add-t16 : tie.Need-add-t16
+add-t16 c = omega (arith, room (c .before .before), line-length (c .before .before))
 
 returns : tie.Need-returns
-unfolding shownOn
-returns c = (rw (c .enum-told .given .1), omega arith)
+returns c =
+    let here = c .before .before in
+    let args = here .before .args in
+    let first = before-end (args .lines) (args .shift) (args .line) (args .digit) (search needs) (rw (line-length here) at (c .if1 .taken)) in
+    (ap cell (omega (arith, first)), omega (arith, room here))
 
 returns-2 : tie.Need-returns-2
-unfolding shownOn
-returns-2 c = (rw (c .enum-told2 .given .1), omega (arith, two-lines c))
+returns-2 c =
+    let here = c .before .before in
+    let args = here .before .args in
+    let again = from-end (args .lines) (args .shift) (args .line) (args .digit) (search needs) (search needs) (rw (line-length here) at (c .if1 .left)) (search needs) in
+    (ap cell (omega (arith, again, line-length here)), omega (arith, room here, line-length here))
 
 pub shown-spec : {M : Type 1} → statement M
 shown-spec =
-    tie.close (tie.spec enum-told add-t7 enum-told-2 mul-t9 add-t10 add-t12 returns returns-2)
+    tie.close (tie.spec enum-told enum-told-2 sub-end mul-t11 add-t12 add-t13 mul-t14 add-t16 returns returns-2)
