@@ -41,7 +41,8 @@ const CLASSES: [Group; 11] = [
     ("halves", &["waited through", "kept by refusal 1", "another RS", "another R/W", "refusal 3", "refusal 3 by a half of 3", "03 completed by 3", "bus to eight lines"]),
     ("function set", &["one to two lines", "two to one line", "an address that is lost", "a shift that is lost", "N as it was, address not 00", "N as it was, shift not 0"]),
     ("pictures", &["shown", "refused 4", "refused 5", "4 and 5 at once", "one line", "two lines", "11 rows", "plain", "dark", "text", "pbm",
-        "display off", "cursor seen", "cursor without blink", "blink seen", "blink without cursor", "cursor of character memory", "28-3F with two lines", "code 00-0F, 8 rows", "code 00-0F, 11 rows", "shift"]),
+        "display off", "cursor seen", "cursor without blink", "blink seen", "blink without cursor", "cursor of character memory", "28-3F with two lines", "code 00-0F, 8 rows", "code 00-0F, 11 rows", "shift",
+        "past the end, one line", "past the end, two lines"]),
 ];
 
 /// The ends of both memories and of the shift, passed in either direction, and shift on write.
@@ -355,6 +356,8 @@ impl Coverage {
         self.met(group, line_count(part));
         self.met_if(tall, group, "11 rows");
         self.met_if(part.shift > 0, group, "shift");
+        let past = view.digits > picture::most_digits(part) - part.shift;
+        self.met_if(past, group, format!("past the end, {}", line_count(part)));
         let digits = 0..usize::from(view.digits);
         let cells: Vec<usize> = (0..part.lines())
             .flat_map(|line| digits.clone().map(move |digit| (line, digit)))

@@ -1,4 +1,5 @@
-//! Tests of the model by the paper's own words: its example, P1 to P11, each refusal; and by what 02, 3/12 says of Clear.
+//! Tests of the model by the paper's own words: its example, P1 to P11, each refusal; by what 02, 3/12 says of Clear; and by
+//! the sheet's tables of shifted screens (02, 6/12).
 
 mod mending;
 mod panel;
@@ -6,6 +7,7 @@ mod wiring;
 
 use crate::compare::{compare, Run};
 use crate::generator::case::{case, end_of};
+use crate::model::counter::address_of;
 use crate::model::part::{switched_on, Half, Memory, Part};
 use crate::model::picture::{cell_shown, picture, View, ROM_BYTES};
 use crate::model::record::{record, Event, MOST_BYTES};
@@ -182,6 +184,26 @@ fn clear_sets_the_direction_to_up_and_keeps_shift_on_write() {
         }
         assert_eq!(part.display[..2], [0x41, 0x42]);
         assert_eq!((part.address, part.shift), (0x02, shift));
+    }
+}
+
+/// Those of sixteen digits; those of eight are their fronts.
+#[test]
+#[rustfmt::skip]
+fn shifted_screens_show_the_addresses_of_the_sheets_tables() {
+    let tables = [
+        (one_line(), 0x1C, 0, [0x4F, 0x00, 0x01, 0x02, 0x03, 0x04, 0x05, 0x06, 0x07, 0x08, 0x09, 0x0A, 0x0B, 0x0C, 0x0D, 0x0E]),
+        (one_line(), 0x18, 0, [0x01, 0x02, 0x03, 0x04, 0x05, 0x06, 0x07, 0x08, 0x09, 0x0A, 0x0B, 0x0C, 0x0D, 0x0E, 0x0F, 0x10]),
+        (two_lines(), 0x1C, 0, [0x27, 0x00, 0x01, 0x02, 0x03, 0x04, 0x05, 0x06, 0x07, 0x08, 0x09, 0x0A, 0x0B, 0x0C, 0x0D, 0x0E]),
+        (two_lines(), 0x1C, 1, [0x67, 0x40, 0x41, 0x42, 0x43, 0x44, 0x45, 0x46, 0x47, 0x48, 0x49, 0x4A, 0x4B, 0x4C, 0x4D, 0x4E]),
+        (two_lines(), 0x18, 0, [0x01, 0x02, 0x03, 0x04, 0x05, 0x06, 0x07, 0x08, 0x09, 0x0A, 0x0B, 0x0C, 0x0D, 0x0E, 0x0F, 0x10]),
+        (two_lines(), 0x18, 1, [0x41, 0x42, 0x43, 0x44, 0x45, 0x46, 0x47, 0x48, 0x49, 0x4A, 0x4B, 0x4C, 0x4D, 0x4E, 0x4F, 0x50]),
+    ];
+    for (mut part, byte, line, addresses) in tables {
+        assert_eq!(instruct(&mut part, byte), 0);
+        for (digit, address) in addresses.into_iter().enumerate() {
+            assert_eq!(address_of(part.two_lines, cell_shown(&part, line, digit)), address);
+        }
     }
 }
 

@@ -155,6 +155,20 @@ pub const LIST: &[Wrong] = &[
         },
     },
     Wrong {
+        name: "first-stretch-ends-a-cell-early",
+        rules: Rules {
+            cell_shown: |part, line, digit| a_cell_further(part, line, digit, line_end(part) - 1),
+            ..PAPER
+        },
+    },
+    Wrong {
+        name: "second-stretch-starts-a-cell-late",
+        rules: Rules {
+            cell_shown: |part, line, digit| a_cell_further(part, line, digit, line_end(part)),
+            ..PAPER
+        },
+    },
+    Wrong {
         name: "sixth-bit",
         rules: Rules {
             five_dots: |dots| dots & 0x3F,
@@ -303,6 +317,16 @@ fn unshifted(part: &Part) -> Part {
         shift: 0,
         ..part.clone()
     }
+}
+
+/// The digit at which a shifted line ends.
+fn line_end(part: &Part) -> usize {
+    usize::from(most_digits(part) - part.shift)
+}
+
+/// From one digit on each shows the cell behind its own.
+fn a_cell_further(part: &Part, line: usize, digit: usize, from: usize) -> usize {
+    cell_shown(part, line, digit + usize::from(digit >= from))
 }
 
 fn marked_at(part: &Part, line: usize, digit: usize) -> bool {
