@@ -1,12 +1,11 @@
 -- The rule in two stretches: up to the end of the line the sum has no remainder, from there on it is what lies behind the end.
 use Prim.Native.Nat.{ℕ, zero, suc, _+_, _*_, _-_, _<_, _≤_}
-use borrow.Author.Tests.{lt-ltb, le-ltb, ltb-true, ltb-false}
-use lib.Dec.{ltb}
-use lib.ListN.{length, take, getD, length-append, List·getD-append}
-use lib.Seq.{length-take-le, getD-take, getD-append-add, ext-getD}
-use mathlib.Core.Bool.{Bool, true, false}
-use mathlib.Core.List.{List, _++_}
-use mathlib.Core.Path.{_≡_, refl, ap, subst, sym, _∙_}
+use borrow.Author.Tests.{lt-ltb, le-ltb}
+use lib.ListN.{take}
+use lib.Seq.{take-at}
+use mathlib.Core.List.{[], _∷_, _++_, append-assoc, append-nil}
+use mathlib.Core.Path.{_≡_, refl, ap, sym, _∙_}
+use native.Mathlib.Nat.{add-zero, add-suc}
 use native.Mathlib.Omega.{arith}
 use Rattle.counters.specs.Address.{cell, addressOf}
 use Rattle.counters.specs.Shift.{lastShift, moveOf}
@@ -14,7 +13,7 @@ use Rattle.counters.specs.Wrap.{next, previous}
 use Rattle.counters.specs.declared.LineMode.{LineMode}
 use Rattle.counters.specs.declared.LineMode.the-variants.{One, Two}
 use Rattle.counters.specs.declared.shift.Shift.{Shift}
-use Rattle.lent.proofs.Lists.{length-values, values-at}
+use Rattle.lent.proofs.Lists.{length-values, values-same}
 use Rattle.lent.specs.Lists.{values, parts}
 use Rattle.size.specs.Size.{linesOf, mostDigits}
 use Rattle.dots.specs.Digit.{shownOn}
@@ -28,8 +27,8 @@ unfolding linesOf mostDigits shownOn
 before-end One s line d h l = omega arith
 before-end Two s line d h l = omega arith
 
--- from there on the remainder starts again
-pub from-end : (lines : LineMode) (s : Shift) (line d : ℕ) → line < linesOf lines → s .0 < mostDigits lines → mostDigits lines - s .0 ≤ d → d < mostDigits lines
+-- from there on the remainder starts again, until the line is through once more
+pub from-end : (lines : LineMode) (s : Shift) (line d : ℕ) → line < linesOf lines → s .0 < mostDigits lines → mostDigits lines - s .0 ≤ d → d - (mostDigits lines - s .0) < mostDigits lines
     → shownOn lines s line d .0 ≡ 40 * line + (d - (mostDigits lines - s .0))
 unfolding linesOf mostDigits shownOn
 from-end One s line d h hs l m = omega arith
@@ -59,32 +58,17 @@ up-to-end One line place = omega arith
 up-to-end Two line place = omega arith
 
 -- ---- values
+values-add : (a b : ℕ) (f : ℕ → ℕ) → values (a + b) f ≡ values a f ++ values b (λ k. f (a + k))
+unfolding values parts
+values-add a zero f = rw (add-zero, append-nil) refl
+values-add a (suc b) f = rw (add-suc, values-add a b f) (append-assoc (values a f) (values b (λ k. f (a + k))) (f (a + b) ∷ []))
+
 -- the first n values of f, where it is g up to a and h from there on
-module _ (n a b : ℕ) (f g h : ℕ → ℕ) (enough : n ≤ a + b) (first : (k : ℕ) → k < a → f k ≡ g k) (again : (k : ℕ) → a + k < n → f (a + k) ≡ h k) where
-  whole : List ℕ
-  whole = values a g ++ values b h
-
-  at-first : (k : ℕ) → k < a → f k ≡ getD whole k 0
-  unfolding whole
-  at-first k l = first k l ∙ sym (List·getD-append (values a g) (values b h) 0 k (rw length-values l) ∙ values-at a g k l)
-
-  at-again : (k : ℕ) → a + k < n → f (a + k) ≡ getD whole (a + k) 0
-  unfolding whole
-  at-again k l = again k l ∙ sym (rw length-values at (getD-append-add (values a g) (values b h) k 0) ∙ values-at b h k (omega arith))
-
-  at-each : (t : Bool) (i : ℕ) → ltb i a ≡ t → i < n → f i ≡ getD whole i 0
-  at-each true i e l = at-first i (ltb-true i a e)
-  at-each false i e l =
-      let m : a ≤ i = ltb-false i a e in
-      let found : a + (i - a) ≡ i = omega arith in
-      subst (λ (j : ℕ). f j ≡ getD whole j 0) found (at-again (i - a) (rw found l))
-
-  values-in-two : values n f ≡ take n (values a g ++ values b h)
-  unfolding whole
-  values-in-two =
-      let long : n ≤ length whole = simp (length-append, length-values) enough in
-      ext-getD 0 (values n f) (take n whole) (length-values n f ∙ sym (length-take-le n whole long))
-      (λ i l. let m : i < n = rw length-values at l in values-at n f i m ∙ at-each (ltb i a) i refl m ∙ sym (getD-take n whole i 0 m))
+values-in-two : (n a b : ℕ) (f g h : ℕ → ℕ) → n ≤ a + b → ((k : ℕ) → k < a → f k ≡ g k) → ((k : ℕ) → k < b → f (a + k) ≡ h k) → values n f ≡ take n (values a g ++ values b h)
+values-in-two n a b f g h enough first again =
+    let rest : n + (a + b - n) ≡ a + b = omega arith in
+    sym (take-at (values n f) (values (a + b - n) (λ k. f (n + k))) n (length-values n f))
+    ∙ ap (take n) (sym (values-add n (a + b - n) f) ∙ ap (λ (m : ℕ). values m f) rest ∙ values-add a b f ∙ rw (values-same a f g first, values-same b _ h again) refl)
 
 pub two-stretches : TwoStretches
 unfolding byRule inStretches _to_

@@ -53,7 +53,7 @@ returns-2 : tie.Need-returns-2
 returns-2 c =
     let here = c .before .before in
     let args = here .before .args in
-    let again = from-end (args .lines) (args .shift) (args .line) (args .digit) (search needs) (search needs) (rw (line-length here) at (c .if1 .left)) (search needs) in
+    let again = from-end (args .lines) (args .shift) (args .line) (args .digit) (search needs) (search needs) (rw (line-length here) at (c .if1 .left)) (omega arith) in
     (ap cell (omega (arith, again, line-length here)), omega (arith, room here, line-length here))
 
 pub shown-spec : {M : Type 1} → statement M
