@@ -1,12 +1,12 @@
 /* The proved code beside the C model.
 
-       compare time RECORD                  both sides' time in nanoseconds, and the proved code's rate in C's
-       compare pass SIDE RECORD PASSES      passes of one side (proved or c) alone, for counting instructions
+       compare time RECORD [COUNT]                  both sides' time in nanoseconds, and the proved code's rate in C's
+       compare pass SIDE RECORD PASSES [COUNT]      passes of one side (proved or c) alone, for counting instructions
 
-   What is measured of a record is its events, each time from a part just switched on; of one named wide or tall, which
-   leads to a screen, the picture: all digits, dark phase, drawn as often as there are passes, after the record is run
-   once. Both sides' results are compared before anything is timed, and no pass can be left out: the sides are compiled
-   apart from this file. */
+   What is measured of a record is its events as one list (the first COUNT of them, where it is given), each time from a
+   part just switched on; of one named wide or tall, which leads to a screen, the picture: all digits, dark phase, drawn
+   as often as there are passes, after the record is run once. Both sides' results are compared before anything is
+   timed, and no pass can be left out: the sides are compiled apart from this file. */
 #include "model.h"
 #include "proved.h"
 
@@ -15,7 +15,7 @@
 #include <string.h>
 #include <time.h>
 
-enum { ROUNDS = 15, MOST_RECORD = 12291, HEAD = 3, EVENT = 3 };
+enum { ROUNDS = 15, MOST_RECORD = 12291, HEAD = 3, EVENT = 3, MOST_ANSWERS = 2 * 4096 };
 
 struct work {
     const char *name;
@@ -26,6 +26,11 @@ struct work {
 
 static uint8_t rom[ROM_BYTES];
 static uint8_t dots[MOST_DOTS];
+static uint8_t answers[MOST_ANSWERS];
+
+/* Just switched on, for either side. */
+static uint8_t fresh_state[TRESTLECAP_STATE_BYTES];
+static struct part fresh_part;
 
 static void stop(const char *name, const char *what)
 {
@@ -42,32 +47,38 @@ static uint32_t proved_side(const struct work *work, uint32_t passes)
     if (work->digits)
         return benchmark_picture(work->record, work->length, work->digits, rom, sizeof rom, true, passes - 1, dots,
                                  sizeof dots);
-    uint32_t sum = 0;
-    for (uint32_t at = 0; at < passes; at++)
-        sum = benchmark_events(work->record, work->length);
-    return sum;
+    uint32_t answer = DONE;
+    for (uint32_t at = 0; at < passes; at++) {
+        uint8_t state[TRESTLECAP_STATE_BYTES];
+        memcpy(state, fresh_state, sizeof state);
+        answer = trestlecap_run_list(state, sizeof state, work->record + HEAD, work->length - HEAD, answers,
+                                     sizeof answers);
+    }
+    return answer;
 }
 
 static uint32_t c_side(const struct work *work, uint32_t passes)
 {
     const uint8_t *events = work->record + HEAD;
     size_t bytes = work->length - HEAD;
+    struct part part = fresh_part;
     if (work->digits) {
-        struct part part;
-        state_model(events, bytes, &part);
+        list_model(&part, events, bytes, answers);
         for (uint32_t at = 0; at < passes; at++)
             picture_model(&part, work->digits, rom, true, dots);
         return DONE;
     }
-    uint32_t sum = 0;
-    for (uint32_t at = 0; at < passes; at++)
-        sum = run_model(events, bytes);
-    return sum;
+    for (uint32_t at = 0; at < passes; at++) {
+        part = fresh_part;
+        list_model(&part, events, bytes, answers);
+    }
+    return DONE;
 }
 
 /* Reading */
 
-static void read_work(const char *name, struct work *work)
+/* `count` is the number of events that are taken from the front, or NULL (the end of the arguments) for all. */
+static void read_work(const char *name, const char *count, struct work *work)
 {
     const char *last = strrchr(name, '/');
     work->name = last ? last + 1 : name;
@@ -78,6 +89,10 @@ static void read_work(const char *name, struct work *work)
     fclose(file);
     if (work->length < HEAD || work->length > MOST_RECORD)
         stop(name, "not a record");
+    size_t first = count ? HEAD + EVENT * strtoul(count, NULL, 10) : work->length;
+    if (first > work->length)
+        stop(name, "has fewer events");
+    work->length = first;
     work->digits = strncmp(work->name, "wide", 4) == 0 ? 40 : strncmp(work->name, "tall", 4) == 0 ? 80 : 0;
 }
 
@@ -90,16 +105,31 @@ static void fill_rom(void)
 
 /* Both sides give the same */
 
+static void make_fresh(void)
+{
+    trestlecap_switch_on(fresh_state, sizeof fresh_state);
+    switch_on(&fresh_part);
+}
+
+static void clear(void)
+{
+    memset(dots, 0xA5, sizeof dots);
+    memset(answers, 0xA5, sizeof answers);
+}
+
 static void same(const struct work *work)
 {
-    uint8_t proved[MOST_DOTS];
-    memset(dots, 0xA5, sizeof dots);
+    uint8_t proved_dots[MOST_DOTS], proved_answers[MOST_ANSWERS];
+    clear();
     uint32_t answer = proved_side(work, 2);
-    memcpy(proved, dots, sizeof dots);
-    memset(dots, 0xA5, sizeof dots);
+    memcpy(proved_dots, dots, sizeof dots);
+    memcpy(proved_answers, answers, sizeof answers);
+    clear();
     if (c_side(work, 2) != answer)
+        stop(work->name, "the proved side refuses");
+    if (!work->digits && memcmp(proved_answers, answers, sizeof answers) != 0)
         stop(work->name, "the two sides answer differently");
-    if (memcmp(proved, dots, sizeof dots) != 0)
+    if (memcmp(proved_dots, dots, sizeof dots) != 0)
         stop(work->name, "the two sides show different dots");
 }
 
@@ -151,18 +181,19 @@ int main(int count, char **arguments)
 {
     static struct work work;
     fill_rom();
-    if (count == 3 && strcmp(arguments[1], "time") == 0) {
-        read_work(arguments[2], &work);
+    make_fresh();
+    if ((count == 3 || count == 4) && strcmp(arguments[1], "time") == 0) {
+        read_work(arguments[2], arguments[3], &work);
         same(&work);
         time_both(&work);
         return 0;
     }
-    if (count == 5 && strcmp(arguments[1], "pass") == 0) {
-        read_work(arguments[3], &work);
+    if ((count == 5 || count == 6) && strcmp(arguments[1], "pass") == 0) {
+        read_work(arguments[3], arguments[5], &work);
         side *side = strcmp(arguments[2], "proved") == 0 ? proved_side : c_side;
         side(&work, (uint32_t)strtoul(arguments[4], NULL, 10));
         return 0;
     }
-    fprintf(stderr, "usage: compare time RECORD | compare pass proved|c RECORD PASSES\n");
+    fprintf(stderr, "usage: compare time RECORD [COUNT] | compare pass proved|c RECORD PASSES [COUNT]\n");
     return 1;
 }

@@ -38,11 +38,8 @@ void wait_ticks(struct part *part, uint16_t ticks);
 /* Lines x rows x digits bytes; returns how many. */
 size_t picture_model(const struct part *part, unsigned digits, const uint8_t rom[ROM_BYTES], bool dark, uint8_t *dots);
 
-/* All events (the bytes behind a sound record's head) from switched on. The checksum of the answers is
-   sum * 31 + answer * 256 + value for each event, modulo 2^32. */
-uint32_t run_model(const uint8_t *events, size_t bytes);
-
-/* The part that the events lead to from switched on. */
-void state_model(const uint8_t *events, size_t bytes, struct part *part);
+/* All events (three bytes each, as behind a sound record's head), and two bytes for each: its answer and the value
+   read. */
+void list_model(struct part *part, const uint8_t *events, size_t bytes, uint8_t *answers);
 
 #endif

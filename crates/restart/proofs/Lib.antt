@@ -1,3 +1,4 @@
+pub mod Two
 pub mod Leads
 pub mod Restarting
 pub mod Third

@@ -1,23 +1,32 @@
 // The standard restart for four lines, as transfers and waits.
 ghost use Prim.Native.Nat.{_≤_, _%_};
+ghost use mathlib.Core.Bool.{true};
 ghost use mathlib.Core.Path.{_≡_};
 ghost use Rattle.bus.specs.Transfer.{told};
+ghost use Rattle.controller.specs.Part.{inRange};
 ghost use Rattle.restart.specs.Writes.{patiently, toldOf, lowerLines, restartOf};
 use bus::Outcome;
 use controller::Controller;
 use controller::answer::Answer;
-use event::Kind;
+use run::run_events;
 
-// One write of the restart, after the busy time.
+// One write of the restart, after the busy time: a list of two events.
 fn write(controller: Controller, upper: u8, lower: u8) -> Controller
-    requires { ⌜ upper ≤ 15 ⌝ }
-    ensures { λ r. ⌜ r ≡ toldOf upper (patiently (lower % 16)) controller .controller ⌝ }
+    requires { ⌜ (upper ≤ 15) × (inRange (controller .registers) ≡ true) ⌝ }
+    ensures { λ r. ⌜ (r ≡ toldOf upper (patiently (lower % 16)) controller .controller) × (inRange (r .registers) ≡ true) ⌝ }
 {
-    let waited = bus::wait(controller, Controller::LONGEST);
-    let free = waited.controller;
-    let wrote = bus::transfer(free, Kind::InstructionWrite, upper * 16 + lower % 16);
-    let after = wrote.controller;
-    after
+    let ticks = Controller::LONGEST;
+    // A wait is kind 4, an instruction write 0.
+    let events = [
+        4,
+        (ticks / 256) as u8,
+        (ticks % 256) as u8,
+        0,
+        0,
+        upper * 16 + lower % 16,
+    ];
+    let mut answers = [0u8; 4];
+    run_events(controller, &events, &mut answers)
 }
 
 // The upper lines: 3, 3, 3, 2, then 28, 08, 02, 06 (hex), each as two halves.

@@ -6,9 +6,6 @@ use mathlib.Core.List.{List, [], _∷_, _++_}
 use mathlib.Core.Path.{_≡_}
 use native.Mathlib.Numerals.{add-one}
 use native.Mathlib.Omega.{arith}
-use Rattle.controller.specs.Answers.{saidOf}
-use Rattle.controller.specs.declared.answer.Answer.{Answer}
-use Rattle.controller.specs.declared.answer.Answer.the-variants.{Done, FirstHalf, Busy, HalvesDisagree, NoSuchAddress, NotInRange}
 use Rattle.event.specs.Kind.{kindNumber}
 use Rattle.event.specs.declared.Event.{Event}
 use Rattle.event.specs.declared.Event.the-variants.{Transfer, Wait}
@@ -47,7 +44,7 @@ spaced-end numbers place out now next i h a = awaits-none (spaced numbers) place
 
 -- ---- a line
 
-module _ (number kind value answer read : ℕ) (w : Narrow number kind value answer read) where
+module _ (number kind value answer read : ℕ) (w : Narrow number kind answer) (v : value < 65536) (r : read < 256) where
   abbrev columns : List ℕ
   columns = spaced (number ∷ kind ∷ value ∷ answer ∷ [])
 
@@ -56,7 +53,7 @@ module _ (number kind value answer read : ℕ) (w : Narrow number kind value ans
   unfolding spaced
   sizes =
       simp length-append
-      (omega (arith, digits-below 3 number (w .four), digits-below 0 kind (w .one), digits-below 4 value (w .five), digits-below 1 answer (w .two), digits-below 2 read (w .three)))
+      (omega (arith, digits-below 3 number (w .four), digits-below 0 kind (w .one), digits-below 4 value (omega arith), digits-below 1 answer (w .two), digits-below 2 read (omega arith)))
 
   module _ (place : ℕ) (out : List ℕ) (room : place + lineBytes ≤ length out) where
     pub columns-room : place + length columns ≤ length out
@@ -81,12 +78,3 @@ kind-number-short DataRead = omega arith
 pub kind-short : (event : Event) → rawOf event .kind < 10
 kind-short (Transfer kind value) = kind-number-short kind
 kind-short (Wait value) = omega arith
-
--- the number of an answer is at most two
-pub number-short : (answer : Answer) → saidOf answer .number < 100
-number-short (Done value) = omega arith
-number-short (FirstHalf value) = omega arith
-number-short Busy = omega arith
-number-short HalvesDisagree = omega arith
-number-short NoSuchAddress = omega arith
-number-short NotInRange = omega arith

@@ -1,14 +1,9 @@
 // The line of one event.
 ghost use Prim.Native.Nat.{_+_, _≤_};
 ghost use lib.ListN.{length};
-ghost use Rattle.controller.specs.Answers.{saidOf};
 ghost use Rattle.lent.specs.Put.{Puts};
-ghost use Rattle.record.specs.Event.{rawOf};
-ghost use Rattle.record.specs.Record.{mostEvents};
 ghost use Rattle.table.specs.Contracts.{Narrow};
 ghost use Rattle.table.specs.Table.{spaced, lineOf, lineBytes};
-use controller::answer::Answer;
-use event::Event;
 use text::put_number;
 
 // A line's bytes: numbers of at most 4, 1, 5, 2 and 3 digits, and a byte behind each.
@@ -28,7 +23,7 @@ fn put_spaced(numbers: &[u16], place: usize, out: &mut [u8]) -> usize
     next
 }
 
-fn put_line(
+pub(crate) fn put_line(
     number: u16,
     kind: u8,
     value: u16,
@@ -37,32 +32,10 @@ fn put_line(
     place: usize,
     out: &mut [u8],
 ) -> usize
-    requires { ⌜ Narrow number kind value answer read × (place + lineBytes ≤ length (now out)) ⌝ }
+    requires { ⌜ Narrow number kind answer × (place + lineBytes ≤ length (now out)) ⌝ }
     ensures { λ r. ⌜ Puts (lineOf number kind value answer read) place (now (out .entry)) r (now (out .exit)) × (r ≤ place + lineBytes) ⌝ }
 {
     let columns = [number, kind as u16, value, answer as u16];
     let next = put_spaced(&columns, place, out);
     put_number(read as u16, b'\n', next, out)
-}
-
-pub(crate) fn put_event(
-    number: u16,
-    event: Event,
-    answer: Answer,
-    place: usize,
-    out: &mut [u8],
-) -> usize
-    requires { ⌜ (number ≤ mostEvents) × (place + lineBytes ≤ length (now out)) ⌝ }
-    ensures { λ r. ⌜ Puts (lineOf number (rawOf event .kind) (rawOf event .value) (saidOf answer .number) (saidOf answer .value)) place (now (out .entry)) r (now (out .exit)) × (r ≤ place + lineBytes) ⌝ }
-{
-    let raw = record::raw_of(event);
-    put_line(
-        number,
-        raw.kind,
-        raw.value,
-        answer.number(),
-        answer.value(),
-        place,
-        out,
-    )
 }

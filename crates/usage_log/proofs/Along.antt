@@ -5,11 +5,11 @@ use lib.ListN.{take}
 use mathlib.Core.Bool.{Bool, _||_}
 use mathlib.Core.List.{List, [], _∷_, _++_}
 use mathlib.Core.Path.{_≡_, _∙_, ap, subst, subst⁻¹}
-use Rattle.bedside.proofs.Called.{after-append}
 use Rattle.bus.specs.Events.{toldBy, afterEvents, saidBy}
 use Rattle.controller.specs.Answers.{Said}
 use Rattle.controller.specs.declared.Controller.{Controller}
 use Rattle.event.specs.declared.Event.{Event}
+use Rattle.run.proofs.Behind.{after-append}
 use Rattle.usage_log.specs.Words.{NoneRefused}
 
 abbrev pub notRefused : Said → Bool

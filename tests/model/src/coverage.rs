@@ -1,6 +1,7 @@
-//! What the records of a run have met, and what they should have met; its scripts and pairs
-//! likewise.
+//! What the records of a run have met, and what they should have met; its scripts and pairs and the
+//! calls from C likewise.
 
+mod calls;
 mod pairs;
 mod scripts;
 

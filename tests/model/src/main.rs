@@ -1,6 +1,7 @@
 //! A model of the part, written from the paper, and its comparison with the built programs.
 
 mod arguments;
+mod calls;
 mod catch;
 mod compare;
 mod coverage;
@@ -22,6 +23,7 @@ const USAGE: &str = "\
 usage: model compare BENCH SCREEN MEND PANEL [--seed S] [--records N] [--scripts N] [--pairs N]
                      [--only NUMBER | --script NUMBER | --pair NUMBER] [--wrong NAME]
        model wrong [BENCH SCREEN MEND PANEL] [--seed S] [--records N] [--scripts N] [--pairs N]
+       model calls FILE [--seed S]
        model names";
 
 fn main() -> ExitCode {
@@ -58,6 +60,9 @@ fn command(arguments: &[String]) -> Result<bool, String> {
             println!("no programs are given: the model stands in for them");
             let programs: &dyn Programs = &Itself { rules: &PAPER };
             Ok(catch::catch_wrong(&options.run, programs))
+        }
+        ("calls", [file]) => {
+            calls::write(file, options.run.seed).map_err(|error| format!("{file}: {error}"))
         }
         ("names", []) => {
             for wrong in wrong::all() {

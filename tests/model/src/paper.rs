@@ -1,6 +1,7 @@
 //! Tests of the model by the paper's own words: its example, P1 to P11, each refusal; by what 02, 3/12 says of Clear; and by
 //! the sheet's tables of shifted screens (02, 6/12).
 
+mod library;
 mod mending;
 mod panel;
 mod wiring;

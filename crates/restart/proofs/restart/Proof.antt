@@ -4,13 +4,14 @@ use borrow.Author.Needs.{needs}
 use borrow.Author.Tests.{not-true, not-false}
 use lib.Dec.{leb, leb→le}
 use lib.ListN.{getD}
-use mathlib.Core.Bool.{Bool}
+use mathlib.Core.Bool.{Bool, true}
 use mathlib.Core.List.{List}
-use mathlib.Core.Path.{_≡_, refl, ap, _∙_}
+use mathlib.Core.Path.{_≡_, refl, sym, ap, _∙_}
 use native.Mathlib.Numerals.{add-one}
 use native.Mathlib.Omega.{arith}
 use Rattle.bus.specs.Transfer.{told}
 use Rattle.condition.proofs.Tests.{each}
+use Rattle.controller.specs.Part.{inRange}
 use Rattle.controller.specs.declared.Controller.{Controller}
 use Rattle.controller.specs.declared.answer.Answer.{Answer}
 use Rattle.restart.specs.Writes.{halves, patiently, toldOf, after as afterAll, patient, lowerLines, restartOf}
@@ -35,7 +36,7 @@ unfolding small
 upper-small n h = leb→le (getD halves n 0) 15 (each small 12 tt n h)
 
 abbrev Inv-loop : tie.InvT-loop
-Inv-loop lower after₀ i₀ after i = (i ≤ 12) × (after ≡ afterFirst i after₀ lower)
+Inv-loop lower after₀ i₀ after i = (i ≤ 12) × (after ≡ afterFirst i after₀ lower) × (inRange (after .registers) ≡ true)
 
 abbrev μ-loop : tie.MeasureT-loop
 μ-loop lower after₀ i₀ after i = 12 - i
@@ -49,7 +50,7 @@ returns c = rw (← c .before .in-range .ensures, not-true (c .before .in-range 
 
 loop-holds : tie.Need-loop-holds Inv-loop μ-loop
 unfolding afterFirst
-loop-holds c = (omega arith, refl)
+loop-holds c = (omega arith, refl, sym (c .before .in-range .ensures) ∙ not-false (c .before .in-range .result) (c .if1 .left))
 
 array-read-write : tie.Need-array-read-write Inv-loop μ-loop
 array-read-write c = omega arith
@@ -58,7 +59,7 @@ array-read-write-2 : tie.Need-array-read-write-2 Inv-loop μ-loop
 array-read-write-2 c = omega arith
 
 write-requires : tie.Need-write-requires Inv-loop μ-loop
-write-requires c κs = upper-small (c .before .loop .i) (omega arith)
+write-requires c κs = (upper-small (c .before .loop .i) (omega arith), c .before .loop .inv .2)
 
 add-i : tie.Need-add-i Inv-loop μ-loop
 add-i c = omega arith
@@ -74,8 +75,9 @@ loop-again c =
     let lower = loop .before .before .before .before .args .t2 in (
       omega arith,
       rw (add-one i)
-          (c .write .ensures
+          (c .write .ensures .0
           ∙ ap (λ (x : Controller). toldOf (getD halves i 0) (patiently (getD lower i 0 % 16)) x .controller) (loop .loop .inv .1)),
+      c .write .ensures .1,
     )
 
 returns-2 : tie.Need-returns-2 Inv-loop μ-loop

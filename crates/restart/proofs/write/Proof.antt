@@ -1,33 +1,47 @@
--- A wait, then the transfer of the two halves of its number.
-use Prim.Native.Nat.{_+_, _*_, _%_}
+-- The two events are given by the loop.
 use borrow.Author.Needs.{needs}
-use mathlib.Core.Path.{ap, _∙_}
-use Rattle.bus.specs.Events.{waits}
-use Rattle.bus.specs.Transfer.{transferOf}
-use Rattle.controller.specs.Told.{Told}
-use Rattle.event.specs.declared.Kind.{Kind}
-use Rattle.restart.specs.Writes.{toldOf}
+use mathlib.Core.Path.{_∙_}
+use native.Mathlib.Omega.{arith}
+use Rattle.restart.proofs.Two.{two-runnable, two-leave, two-told}
 use Rattle.restart.proofs.write.Statement.{statement}
 use Rattle.restart.proofs.write.Tie as tie
 
-wait-requires : tie.Need-wait-requires
-wait-requires c κs = search needs
+cast-t8 : tie.Need-cast-t8
+cast-t8 c = search needs
 
-mul-transfer : tie.Need-mul-transfer
-mul-transfer c = search needs
+cast-t10 : tie.Need-cast-t10
+cast-t10 c = search needs
 
-add-transfer : tie.Need-add-transfer
-add-transfer c = search needs
+mul-t11 : tie.Need-mul-t11
+mul-t11 c = search needs
 
-transfer-requires : tie.Need-transfer-requires
-transfer-requires c κs = search needs
+add-t13 : tie.Need-add-t13
+add-t13 c = search needs
+
+slice-aggregate-run-events : tie.Need-slice-aggregate-run-events
+slice-aggregate-run-events c = search needs
+
+slice-aggregate-run-events-2 : tie.Need-slice-aggregate-run-events-2
+slice-aggregate-run-events-2 c = search needs
+
+run-events-requires : tie.Need-run-events-requires
+run-events-requires c κs = two-runnable _ (omega arith) _ _ (c .before .before .pre .1) (omega arith)
 
 returns : tie.Need-returns
-unfolding toldOf waits
 returns c =
-    ap (λ (t : Told). t .controller) (c .before .transfer .ensures)
-    ∙ ap (λ (t : Told). transferOf (t .controller) Kind.InstructionWrite (c .before .before .before .before .args .upper * 16 + c .before .before .before .before .args .lower % 16) .controller)
-    (c .before .before .before .wait .ensures)
+    let ran = c .before in
+    let left = two-leave _ (omega arith) _ _ (ran .before .before .before .pre .1) (ran .run-events .ensures .controller) in
+    (left .0 ∙ two-told _ _ _, left .1)
 
 pub write-spec : {M : Type 1} → statement M
-write-spec = tie.close (tie.spec wait-requires mul-transfer add-transfer transfer-requires returns)
+write-spec =
+    tie.close
+    (tie.spec
+    cast-t8
+    cast-t10
+    mul-t11
+    add-t13
+    slice-aggregate-run-events
+    slice-aggregate-run-events-2
+    run-events-requires
+    returns)

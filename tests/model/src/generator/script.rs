@@ -53,7 +53,7 @@ pub fn script(seed: u64, number: u64) -> Script {
 impl Author<'_> {
     /// None, or any events; as a rule a part that is ready then, log cells written straight, and
     /// often one thing that 17 forbids or one that it does not ask for; now and then a call cut off.
-    fn lead(&mut self) {
+    pub(super) fn lead(&mut self) {
         if self.random.percent(4) {
             return;
         }
@@ -157,7 +157,7 @@ impl Author<'_> {
         }
     }
 
-    fn call(&mut self) -> Call {
+    pub(super) fn call(&mut self) -> Call {
         match self.random.below(10) {
             0..=2 => self.text_call(),
             3..=6 => self.log_call(),
@@ -234,7 +234,7 @@ impl Author<'_> {
     }
 
     /// Puts the call's own events behind those there; whether it has any.
-    fn take(&mut self, call: &Call) -> bool {
+    pub(super) fn take(&mut self, call: &Call) -> bool {
         let before = self.events.len();
         let written = panel(&PAPER, call, &record(&self.events));
         let all = events(&PAPER, &written.record).unwrap_or_default();

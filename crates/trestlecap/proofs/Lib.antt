@@ -1,0 +1,7 @@
+pub mod Held
+pub mod Refused
+pub mod Found
+pub mod Driven
+pub mod Mended
+pub mod FromC
+pub mod Settled
