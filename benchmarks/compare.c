@@ -15,7 +15,7 @@
 #include <string.h>
 #include <time.h>
 
-enum { ROUNDS = 15, MOST_RECORD = 12291, HEAD = 3, EVENT = 3, MOST_ANSWERS = 2 * 4096 };
+enum { ROUNDS = 15, MOST_RECORD = 12291, HEAD = 3, EVENT = 3, MOST_ANSWERS = 3 * 4096 };
 
 struct work {
     const char *name;

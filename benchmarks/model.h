@@ -29,8 +29,9 @@ struct part {
 
 void switch_on(struct part *part);
 
-/* One transfer of the kinds 0 to 3. The value read is 0 unless a read succeeds. */
-uint8_t transfer(struct part *part, enum kind kind, uint8_t value, uint8_t *read);
+/* One transfer of the kinds 0 to 3. The value read is 0 unless a read succeeds; the wrap is true where the counter
+   passed an end. */
+uint8_t transfer(struct part *part, enum kind kind, uint8_t value, uint8_t *read, bool *wrap);
 
 /* Not `wait`, which the C library has already. */
 void wait_ticks(struct part *part, uint16_t ticks);
@@ -38,8 +39,8 @@ void wait_ticks(struct part *part, uint16_t ticks);
 /* Lines x rows x digits bytes; returns how many. */
 size_t picture_model(const struct part *part, unsigned digits, const uint8_t rom[ROM_BYTES], bool dark, uint8_t *dots);
 
-/* All events (three bytes each, as behind a sound record's head), and two bytes for each: its answer and the value
-   read. */
+/* All events (three bytes each, as behind a sound record's head), and three bytes for each: its answer, the value read
+   and the wrap. */
 void list_model(struct part *part, const uint8_t *events, size_t bytes, uint8_t *answers);
 
 #endif

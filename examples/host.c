@@ -11,6 +11,7 @@
 enum { LINES = 2, ROWS = 8, DIGITS = 16, SHORT_TICKS = 10 };
 
 static uint8_t part[TRESTLECAP_STATE_BYTES];
+static uint8_t wrap; /* of the panel's last call: 1 for night 23 alone, and no text runs off there */
 
 static void say(const char *what, uint8_t answer)
 {
@@ -19,7 +20,7 @@ static void say(const char *what, uint8_t answer)
 
 static void write_text(uint8_t line, const char *text)
 {
-    say(text, trestlecap_text(part, sizeof part, line, (const uint8_t *)text, TRESTLECAP_TEXT_BYTES));
+    say(text, trestlecap_text(part, sizeof part, line, (const uint8_t *)text, TRESTLECAP_TEXT_BYTES, &wrap));
 }
 
 static void look_up(uint8_t night)
@@ -42,6 +43,9 @@ static void switch_display_on(void)
         { TRESTLECAP_INSTRUCTION_WRITE, 0, 0xE0 },
         { TRESTLECAP_INSTRUCTION_WRITE, 0, 0x80 }, /* too early: busy, and refused; the rest goes on */
         { TRESTLECAP_WAIT, 0, SHORT_TICKS },
+        { TRESTLECAP_INSTRUCTION_WRITE, 0, 0x10 }, /* 10: cursor left, from 00 past an end to 67; wrap 1 */
+        { TRESTLECAP_INSTRUCTION_WRITE, 0, 0x00 },
+        { TRESTLECAP_WAIT, 0, SHORT_TICKS },
         { TRESTLECAP_INSTRUCTION_WRITE, 0, 0x80 }, /* 8F: display address 0F */
         { TRESTLECAP_INSTRUCTION_WRITE, 0, 0xF0 },
         { TRESTLECAP_STATUS_READ, 0, 0 },          /* 8F: busy, at address 0F */
@@ -50,10 +54,10 @@ static void switch_display_on(void)
     enum { COUNT = sizeof events / sizeof *events };
     uint8_t answers[COUNT][TRESTLECAP_ANSWER_BYTES];
     say("list", trestlecap_run_list(part, sizeof part, *events, sizeof events, *answers, sizeof answers));
-    printf("event kind value answer result\n");
+    printf("event kind value answer result wrap\n");
     for (int at = 0; at < COUNT; at++)
-        printf("%d %d %d %d %d\n", at + 1, events[at][0], events[at][1] << 8 | events[at][2], answers[at][0],
-               answers[at][1]);
+        printf("%d %d %d %d %d %d\n", at + 1, events[at][0], events[at][1] << 8 | events[at][2], answers[at][0],
+               answers[at][1], answers[at][2]);
 }
 
 /* One byte a digit and row, the leftmost dot in bit 4. */
@@ -94,8 +98,8 @@ int main(int count, char **arguments)
     say("restart", trestlecap_restart(part, sizeof part));
     write_text(0, "Good night, Anna");
     write_text(1, "Slept 7 1/4 h   ");
-    say("log night 3, 29 quarter hours", trestlecap_log_night(part, sizeof part, 3, 29));
-    say("log night 3, 30 quarter hours", trestlecap_log_night(part, sizeof part, 3, 30));
+    say("log night 3, 29 quarter hours", trestlecap_log_night(part, sizeof part, 3, 29, &wrap));
+    say("log night 3, 30 quarter hours", trestlecap_log_night(part, sizeof part, 3, 30, &wrap));
     look_up(3);
     look_up(4);
     say("restart", trestlecap_restart(part, sizeof part));

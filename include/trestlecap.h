@@ -52,11 +52,17 @@ enum trestlecap_kind {
     TRESTLECAP_WAIT = 4
 };
 
+/* The wrap: 1 where a transfer stepped the counter past an end (text that goes on there has run off its line), else 0.
+   The ends, in hex: 27 to 40 and 67 to 00 with two lines, 4F to 00 with one, 3F to 00 in character memory, and each of
+   these downwards. Data writes, data reads and cursor moves (10 to 17) step the counter, on four lines with the second
+   half. Status reads, first halves, refusals, every other instruction (also one that sets address 00) and waits have
+   wrap 0. */
+
 /* Lengths in bytes. */
 enum {
     TRESTLECAP_STATE_BYTES = 159,
     TRESTLECAP_EVENT_BYTES = 3,   /* kind, value */
-    TRESTLECAP_ANSWER_BYTES = 2,  /* answer, value read */
+    TRESTLECAP_ANSWER_BYTES = 3,  /* answer, value read, wrap */
     TRESTLECAP_ROM_BYTES = 4096,
     TRESTLECAP_TEXT_BYTES = 16,
     TRESTLECAP_MOST_DOTS = 880,   /* of a picture: 80 digits with 11 rows */
@@ -95,9 +101,10 @@ uint8_t trestlecap_switch_on(uint8_t *state, size_t state_length);
 /* Gives a list of events to the part, in order. An event that is answered 1, 2 or 3 does not stop the rest; an empty
    list is done. One transfer or one wait is a list of one event.
 
-   Refusals: 16; 6 (below two bytes of answers for each whole event, also of a list that would be refused with 9);
+   Refusals: 16; 6 (below three bytes of answers for each whole event, also of a list that would be refused with 9);
    9 (a length that is not a multiple of 3, more than 4,096 events, or one that is ill-formed: no event is run).
-   Writes: state; the first 2 bytes of answers for each event, its answer and the value read (0 where none is). */
+   Writes: state; the first 3 bytes of answers for each event: its answer, the value read (0 where none is) and the
+   wrap (1 where the counter passed an end, else 0). */
 uint8_t trestlecap_run_list(uint8_t *state, size_t state_length, const uint8_t *events, size_t events_length,
                             uint8_t *answers, size_t answers_length);
 
@@ -119,18 +126,21 @@ uint8_t trestlecap_picture(const uint8_t *state, size_t state_length, uint8_t di
                            size_t rom_length, uint8_t dark, uint8_t *dots, size_t dots_length);
 
 /* Writes a text of 16 characters on line 0 or 1 of the two-line screen, from its first digit on. A panel's call waits
-   3,750 ticks before each transfer and leaves the part at display address 00, busy for 10 ticks.
+   3,750 ticks before each transfer, leaves the part at display address 00, busy for 10 ticks, and writes *wrap, 1 if
+   one of its data writes passed an end, else 0. Those of a text never do.
 
    Refusals: 16; 17; 18.
-   Writes: state. */
-uint8_t trestlecap_text(uint8_t *state, size_t state_length, uint8_t line, const uint8_t *text, size_t text_length);
+   Writes: state; *wrap, always 0. */
+uint8_t trestlecap_text(uint8_t *state, size_t state_length, uint8_t line, const uint8_t *text, size_t text_length,
+                        uint8_t *wrap);
 
 /* Logs the quarter hours (0 to 96) of a night (0 to 23), off the screen, as a panel's call like a text. A night that is
    already written keeps its figure.
 
    Refusals: 16; 17; 11; 12; 13.
-   Writes: state. */
-uint8_t trestlecap_log_night(uint8_t *state, size_t state_length, uint8_t night, uint8_t quarters);
+   Writes: state; *wrap, 1 exactly for night 23, whose cells stand at the ends of both lines, 27 and 67 (hex): no text
+   runs off there. */
+uint8_t trestlecap_log_night(uint8_t *state, size_t state_length, uint8_t night, uint8_t quarters, uint8_t *wrap);
 
 /* Looks a night up, without a transfer: written 1 and the figure as it stands; of a night that is not yet written,
    written 0 and quarters 0.

@@ -135,11 +135,13 @@ static void read_given(struct reader *reader, struct call *call)
         lend_bytes(reader, call);
         hand_over(reader, call);
         lend_bytes(reader, call);
+        another_run(call, sizeof(uint8_t));
         break;
     case LOG_NIGHT:
         lend_bytes(reader, call);
         hand_over(reader, call);
         hand_over(reader, call);
+        another_run(call, sizeof(uint8_t));
         break;
     case LOOK_UP:
         lend_bytes(reader, call);
@@ -229,6 +231,14 @@ static void read_left(struct reader *reader, struct call *call)
         break;
     case PICTURE:
         leaves_bytes(reader, &runs[2]);
+        break;
+    case TEXT:
+        leaves_bytes(reader, &runs[0]);
+        leaves_byte(reader, &runs[2]);
+        break;
+    case LOG_NIGHT:
+        leaves_bytes(reader, &runs[0]);
+        leaves_byte(reader, &runs[1]);
         break;
     case LOOK_UP:
         leaves_byte(reader, &runs[1]);

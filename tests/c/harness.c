@@ -70,9 +70,11 @@ static uint8_t make(const struct library *library, const struct call *call, cons
         return library->picture(lent[0].bytes, runs[0].length, (uint8_t)numbers[0], lent[1].bytes, runs[1].length,
                                 (uint8_t)numbers[1], lent[2].bytes, runs[2].length);
     case TEXT:
-        return library->text(lent[0].bytes, runs[0].length, (uint8_t)numbers[0], lent[1].bytes, runs[1].length);
+        return library->text(lent[0].bytes, runs[0].length, (uint8_t)numbers[0], lent[1].bytes, runs[1].length,
+                             lent[2].bytes);
     case LOG_NIGHT:
-        return library->log_night(lent[0].bytes, runs[0].length, (uint8_t)numbers[0], (uint8_t)numbers[1]);
+        return library->log_night(lent[0].bytes, runs[0].length, (uint8_t)numbers[0], (uint8_t)numbers[1],
+                                  lent[1].bytes);
     case LOOK_UP:
         return library->look_up(lent[0].bytes, runs[0].length, (uint8_t)numbers[0], lent[1].bytes, lent[2].bytes);
     case QUARTER_BIAS:

@@ -9,8 +9,8 @@ struct library {
     uint8_t (*run_list)(uint8_t *, size_t, const uint8_t *, size_t, uint8_t *, size_t);
     uint8_t (*restart)(uint8_t *, size_t);
     uint8_t (*picture)(const uint8_t *, size_t, uint8_t, const uint8_t *, size_t, uint8_t, uint8_t *, size_t);
-    uint8_t (*text)(uint8_t *, size_t, uint8_t, const uint8_t *, size_t);
-    uint8_t (*log_night)(uint8_t *, size_t, uint8_t, uint8_t);
+    uint8_t (*text)(uint8_t *, size_t, uint8_t, const uint8_t *, size_t, uint8_t *);
+    uint8_t (*log_night)(uint8_t *, size_t, uint8_t, uint8_t, uint8_t *);
     uint8_t (*look_up)(const uint8_t *, size_t, uint8_t, uint8_t *, uint8_t *);
     uint8_t (*quarter_bias)(uint16_t, uint16_t, float *);
     uint8_t (*fifth_bias)(uint16_t, uint16_t, float *);

@@ -6,7 +6,8 @@
 
 enum { STATE = TRESTLECAP_STATE_BYTES, EVENT = TRESTLECAP_EVENT_BYTES, ANSWER = TRESTLECAP_ANSWER_BYTES };
 enum { MOST = TRESTLECAP_MOST_EVENTS };
-enum { MEMORY = 144, ADDRESS = 145, SHIFT = 146, EIGHT_LINES = 147, TWO_LINES = 148, TALL = 149 };
+enum { VALUE = 1, WRAP = 2 }; /* in an event's answer */
+enum { MEMORY = 144, ADDRESS = 145, SHIFT = 146, EIGHT_LINES = 147, TWO_LINES = 148, TALL = 149, UP = 150 };
 enum { BLINK = 154, HALF = 155, NUMBER = 156, BUSY_HIGH = 157, BUSY_LOW = 158 };
 enum { FIGURES = 16, MARKS = 56 }; /* the cells of night 0 */
 
@@ -118,6 +119,19 @@ static uint8_t list_room_a_byte_short(uint8_t *state, size_t state_length, const
     if (room + 1 != room_for(length) || room_for(length) > sizeof whole)
         return trestlecap_run_list(state, state_length, events, length, answers, room);
     uint8_t answer = trestlecap_run_list(state, state_length, events, length, whole, room + 1);
+    if (answer == TRESTLECAP_DONE)
+        memcpy(answers, whole, room);
+    return answer;
+}
+
+/* The answers of the last events are cut off. */
+static uint8_t list_room_of_two_bytes(uint8_t *state, size_t state_length, const uint8_t *events, size_t length,
+                                      uint8_t *answers, size_t room)
+{
+    static uint8_t whole[ANSWER * (MOST + 1)];
+    if (room < length / EVENT * WRAP || room >= room_for(length) || room_for(length) > sizeof whole)
+        return trestlecap_run_list(state, state_length, events, length, answers, room);
+    uint8_t answer = trestlecap_run_list(state, state_length, events, length, whole, sizeof whole);
     if (answer == TRESTLECAP_DONE)
         memcpy(answers, whole, room);
     return answer;
@@ -247,8 +261,8 @@ static uint8_t list_value_before_answer(uint8_t *state, size_t state_length, con
     uint8_t answer = trestlecap_run_list(state, state_length, events, length, answers, room);
     for (size_t at = 0; answer == TRESTLECAP_DONE && at < room_for(length); at += ANSWER) {
         uint8_t first = answers[at];
-        answers[at] = answers[at + 1];
-        answers[at + 1] = first;
+        answers[at] = answers[at + VALUE];
+        answers[at + VALUE] = first;
     }
     return answer;
 }
@@ -275,6 +289,230 @@ static uint8_t list_keeps_state_where_refused(uint8_t *state, size_t state_lengt
     if (refused)
         memcpy(state, before, sizeof before);
     return answer;
+}
+
+/* Lists: the wrap */
+
+/* The list with the bytes of each event's answer laid out anew. */
+static uint8_t list_laid_out(uint8_t *state, size_t state_length, const uint8_t *events, size_t length,
+                             uint8_t *answers, size_t room, void lay_out(const uint8_t *, size_t, uint8_t *))
+{
+    static uint8_t whole[ANSWER * (MOST + 1)];
+    uint8_t answer = trestlecap_run_list(state, state_length, events, length, whole,
+                                         room < sizeof whole ? room : sizeof whole);
+    for (size_t at = 0; answer == TRESTLECAP_DONE && at < length / EVENT; at++)
+        lay_out(whole + ANSWER * at, at, answers);
+    return answer;
+}
+
+/* Those before the wrap. */
+static void two_bytes_an_event(const uint8_t *answer, size_t at, uint8_t *answers)
+{
+    memcpy(answers + WRAP * at, answer, WRAP);
+}
+
+static uint8_t list_of_two_bytes_an_event(uint8_t *state, size_t state_length, const uint8_t *events, size_t length,
+                                          uint8_t *answers, size_t room)
+{
+    return list_laid_out(state, state_length, events, length, answers, room, two_bytes_an_event);
+}
+
+static void all_but_the_wrap(const uint8_t *answer, size_t at, uint8_t *answers)
+{
+    memcpy(answers + ANSWER * at, answer, WRAP);
+}
+
+static uint8_t list_leaves_wrap(uint8_t *state, size_t state_length, const uint8_t *events, size_t length,
+                                uint8_t *answers, size_t room)
+{
+    return list_laid_out(state, state_length, events, length, answers, room, all_but_the_wrap);
+}
+
+static void wrap_before_value(const uint8_t *answer, size_t at, uint8_t *answers)
+{
+    memcpy(answers + ANSWER * at, (uint8_t[ANSWER]){ answer[0], answer[WRAP], answer[VALUE] }, ANSWER);
+}
+
+static uint8_t list_wrap_before_value(uint8_t *state, size_t state_length, const uint8_t *events, size_t length,
+                                      uint8_t *answers, size_t room)
+{
+    return list_laid_out(state, state_length, events, length, answers, room, wrap_before_value);
+}
+
+/* One event of a list that was done: its answer, and the states before and behind it. */
+struct turn {
+    size_t at;
+    const uint8_t *event, *answer, *before, *behind;
+};
+
+/* The list with the wrap of each event said anew. */
+static uint8_t list_said(uint8_t *state, size_t state_length, const uint8_t *events, size_t length, uint8_t *answers,
+                         size_t room, uint8_t say(const struct turn *))
+{
+    uint8_t before[STATE], behind[STATE], unseen[ANSWER];
+    if (state_length == STATE)
+        memcpy(behind, state, sizeof behind);
+    uint8_t answer = trestlecap_run_list(state, state_length, events, length, answers, room);
+    for (size_t at = 0; answer == TRESTLECAP_DONE && at < length / EVENT; at++) {
+        struct turn turn = { at, events + EVENT * at, answers + ANSWER * at, before, behind };
+        memcpy(before, behind, sizeof before);
+        trestlecap_run_list(behind, sizeof behind, turn.event, EVENT, unseen, sizeof unseen);
+        answers[ANSWER * at + WRAP] = say(&turn);
+    }
+    return answer;
+}
+
+static uint8_t never(const struct turn *turn)
+{
+    (void)turn;
+    return 0;
+}
+
+static uint8_t list_never_wraps(uint8_t *state, size_t state_length, const uint8_t *events, size_t length,
+                                uint8_t *answers, size_t room)
+{
+    return list_said(state, state_length, events, length, answers, room, never);
+}
+
+static uint8_t inverted(const struct turn *turn)
+{
+    return !turn->answer[WRAP];
+}
+
+static uint8_t list_wrap_inverted(uint8_t *state, size_t state_length, const uint8_t *events, size_t length,
+                                  uint8_t *answers, size_t room)
+{
+    return list_said(state, state_length, events, length, answers, room, inverted);
+}
+
+static uint8_t all_bits(const struct turn *turn)
+{
+    return turn->answer[WRAP] ? 0xFF : 0;
+}
+
+static uint8_t list_wrap_of_255(uint8_t *state, size_t state_length, const uint8_t *events, size_t length,
+                                uint8_t *answers, size_t room)
+{
+    return list_said(state, state_length, events, length, answers, room, all_bits);
+}
+
+static uint8_t of_first_alone(const struct turn *turn)
+{
+    return turn->at == 0 && turn->answer[WRAP];
+}
+
+static uint8_t list_wrap_of_first_alone(uint8_t *state, size_t state_length, const uint8_t *events, size_t length,
+                                        uint8_t *answers, size_t room)
+{
+    return list_said(state, state_length, events, length, answers, room, of_first_alone);
+}
+
+/* Answers stand one behind the other, those before this one said anew already. */
+static uint8_t from_there_on(const struct turn *turn)
+{
+    return turn->answer[WRAP] || (turn->at > 0 && turn->answer[WRAP - ANSWER]);
+}
+
+static uint8_t list_wrap_from_there_on(uint8_t *state, size_t state_length, const uint8_t *events, size_t length,
+                                       uint8_t *answers, size_t room)
+{
+    return list_said(state, state_length, events, length, answers, room, from_there_on);
+}
+
+/* As if a first half of data stepped the counter, downwards from 00. */
+static uint8_t with_first_half(const struct turn *turn)
+{
+    bool data = turn->event[0] == TRESTLECAP_DATA_WRITE || turn->event[0] == TRESTLECAP_DATA_READ;
+    if (turn->answer[0] == TRESTLECAP_FIRST_HALF && data)
+        return !turn->before[UP] && turn->before[ADDRESS] == 0;
+    return turn->answer[WRAP];
+}
+
+static uint8_t list_wrap_with_first_half(uint8_t *state, size_t state_length, const uint8_t *events, size_t length,
+                                         uint8_t *answers, size_t room)
+{
+    return list_said(state, state_length, events, length, answers, room, with_first_half);
+}
+
+static uint8_t not_for_data_writes(const struct turn *turn)
+{
+    return turn->event[0] != TRESTLECAP_DATA_WRITE && turn->answer[WRAP];
+}
+
+static uint8_t list_no_wrap_for_data_writes(uint8_t *state, size_t state_length, const uint8_t *events, size_t length,
+                                            uint8_t *answers, size_t room)
+{
+    return list_said(state, state_length, events, length, answers, room, not_for_data_writes);
+}
+
+static uint8_t not_for_data_reads(const struct turn *turn)
+{
+    return turn->event[0] != TRESTLECAP_DATA_READ && turn->answer[WRAP];
+}
+
+static uint8_t list_no_wrap_for_data_reads(uint8_t *state, size_t state_length, const uint8_t *events, size_t length,
+                                           uint8_t *answers, size_t room)
+{
+    return list_said(state, state_length, events, length, answers, room, not_for_data_reads);
+}
+
+static uint8_t not_for_cursor_moves(const struct turn *turn)
+{
+    return turn->event[0] != TRESTLECAP_INSTRUCTION_WRITE && turn->answer[WRAP];
+}
+
+static uint8_t list_no_wrap_for_cursor_moves(uint8_t *state, size_t state_length, const uint8_t *events,
+                                             size_t length, uint8_t *answers, size_t room)
+{
+    return list_said(state, state_length, events, length, answers, room, not_for_cursor_moves);
+}
+
+/* Upwards an end is passed to 00 or 40. */
+static uint8_t not_downwards(const struct turn *turn)
+{
+    return turn->answer[WRAP] && turn->behind[ADDRESS] % 0x40 == 0;
+}
+
+static uint8_t list_no_wrap_downwards(uint8_t *state, size_t state_length, const uint8_t *events, size_t length,
+                                      uint8_t *answers, size_t room)
+{
+    return list_said(state, state_length, events, length, answers, room, not_downwards);
+}
+
+static uint8_t not_in_character_memory(const struct turn *turn)
+{
+    return turn->answer[WRAP] && turn->before[MEMORY] == 0;
+}
+
+static uint8_t list_no_wrap_in_character_memory(uint8_t *state, size_t state_length, const uint8_t *events,
+                                                size_t length, uint8_t *answers, size_t room)
+{
+    return list_said(state, state_length, events, length, answers, room, not_in_character_memory);
+}
+
+static uint8_t not_between_lines(const struct turn *turn)
+{
+    uint8_t before = turn->before[ADDRESS], behind = turn->behind[ADDRESS];
+    return turn->answer[WRAP] && (before == 0 || behind == 0);
+}
+
+static uint8_t list_no_wrap_between_lines(uint8_t *state, size_t state_length, const uint8_t *events, size_t length,
+                                          uint8_t *answers, size_t room)
+{
+    return list_said(state, state_length, events, length, answers, room, not_between_lines);
+}
+
+/* Also where an instruction sets the address. */
+static uint8_t wherever_not_the_next(const struct turn *turn)
+{
+    int moved = turn->behind[ADDRESS] - turn->before[ADDRESS];
+    return moved < -1 || 1 < moved;
+}
+
+static uint8_t list_wrap_for_address_set(uint8_t *state, size_t state_length, const uint8_t *events, size_t length,
+                                         uint8_t *answers, size_t room)
+{
+    return list_said(state, state_length, events, length, answers, room, wherever_not_the_next);
 }
 
 /* States */
@@ -497,74 +735,144 @@ static uint8_t picture_begun_where_short(const uint8_t *state, size_t state_leng
 
 /* The panel */
 
-static uint8_t text_on_line_0(uint8_t *state, size_t state_length, uint8_t line, const uint8_t *text, size_t length)
+static uint8_t text_on_line_0(uint8_t *state, size_t state_length, uint8_t line, const uint8_t *text, size_t length,
+                              uint8_t *wrap)
 {
-    return trestlecap_text(state, state_length, line == 1 ? 0 : line, text, length);
+    return trestlecap_text(state, state_length, line == 1 ? 0 : line, text, length, wrap);
 }
 
-static uint8_t text_takes_line_2(uint8_t *state, size_t state_length, uint8_t line, const uint8_t *text, size_t length)
+static uint8_t text_takes_line_2(uint8_t *state, size_t state_length, uint8_t line, const uint8_t *text, size_t length,
+                                 uint8_t *wrap)
 {
-    return trestlecap_text(state, state_length, line > 1 ? 1 : line, text, length);
+    return trestlecap_text(state, state_length, line > 1 ? 1 : line, text, length, wrap);
 }
 
-static uint8_t text_cut_to_16(uint8_t *state, size_t state_length, uint8_t line, const uint8_t *text, size_t length)
+static uint8_t text_cut_to_16(uint8_t *state, size_t state_length, uint8_t line, const uint8_t *text, size_t length,
+                              uint8_t *wrap)
 {
     size_t most = TRESTLECAP_TEXT_BYTES;
-    return trestlecap_text(state, state_length, line, text, length > most ? most : length);
+    return trestlecap_text(state, state_length, line, text, length > most ? most : length, wrap);
 }
 
-static uint8_t text_before_ready(uint8_t *state, size_t state_length, uint8_t line, const uint8_t *text, size_t length)
+static uint8_t text_before_ready(uint8_t *state, size_t state_length, uint8_t line, const uint8_t *text, size_t length,
+                                 uint8_t *wrap)
 {
     if (is_part(state, state_length) && (length != TRESTLECAP_TEXT_BYTES || line > 1))
         return TRESTLECAP_BAD_TEXT;
-    return trestlecap_text(state, state_length, line, text, length);
+    return trestlecap_text(state, state_length, line, text, length, wrap);
 }
 
 static uint8_t text_waits_though_refused(uint8_t *state, size_t state_length, uint8_t line, const uint8_t *text,
-                                         size_t length)
+                                         size_t length, uint8_t *wrap)
 {
-    uint8_t answer = trestlecap_text(state, state_length, line, text, length);
+    uint8_t answer = trestlecap_text(state, state_length, line, text, length, wrap);
     if (answer == TRESTLECAP_BAD_TEXT)
         state[BUSY_HIGH] = state[BUSY_LOW] = 0;
     return answer;
 }
 
-static uint8_t log_exchanged(uint8_t *state, size_t length, uint8_t night, uint8_t quarters)
+static uint8_t text_leaves_wrap(uint8_t *state, size_t state_length, uint8_t line, const uint8_t *text, size_t length,
+                                uint8_t *wrap)
 {
-    return trestlecap_log_night(state, length, quarters, night);
+    uint8_t unseen;
+    (void)wrap;
+    return trestlecap_text(state, state_length, line, text, length, &unseen);
 }
 
-static uint8_t log_quarters_before_night(uint8_t *state, size_t length, uint8_t night, uint8_t quarters)
+static uint8_t text_wraps_though_refused(uint8_t *state, size_t state_length, uint8_t line, const uint8_t *text,
+                                         size_t length, uint8_t *wrap)
 {
-    uint8_t answer = trestlecap_log_night(state, length, night, quarters);
+    *wrap = 0;
+    return trestlecap_text(state, state_length, line, text, length, wrap);
+}
+
+/* As if the address that is set behind it, 00, were an end that was passed. */
+static uint8_t text_always_wraps(uint8_t *state, size_t state_length, uint8_t line, const uint8_t *text, size_t length,
+                                 uint8_t *wrap)
+{
+    uint8_t answer = trestlecap_text(state, state_length, line, text, length, wrap);
+    if (answer == TRESTLECAP_DONE)
+        *wrap = 1;
+    return answer;
+}
+
+static uint8_t log_exchanged(uint8_t *state, size_t length, uint8_t night, uint8_t quarters, uint8_t *wrap)
+{
+    return trestlecap_log_night(state, length, quarters, night, wrap);
+}
+
+static uint8_t log_quarters_before_night(uint8_t *state, size_t length, uint8_t night, uint8_t quarters, uint8_t *wrap)
+{
+    uint8_t answer = trestlecap_log_night(state, length, night, quarters, wrap);
     return answer == TRESTLECAP_BAD_NIGHT && quarters > TRESTLECAP_MOST_QUARTERS ? TRESTLECAP_BAD_QUARTERS : answer;
 }
 
-static uint8_t log_written_before_quarters(uint8_t *state, size_t length, uint8_t night, uint8_t quarters)
+static uint8_t log_written_before_quarters(uint8_t *state, size_t length, uint8_t night, uint8_t quarters,
+                                           uint8_t *wrap)
 {
     uint8_t written, figure;
-    uint8_t answer = trestlecap_log_night(state, length, night, quarters);
+    uint8_t answer = trestlecap_log_night(state, length, night, quarters, wrap);
     if (answer != TRESTLECAP_BAD_QUARTERS)
         return answer;
     trestlecap_look_up(state, length, night, &written, &figure);
     return written ? TRESTLECAP_ALREADY_WRITTEN : answer;
 }
 
-static uint8_t log_takes_97(uint8_t *state, size_t length, uint8_t night, uint8_t quarters)
+static uint8_t log_takes_97(uint8_t *state, size_t length, uint8_t night, uint8_t quarters, uint8_t *wrap)
 {
-    uint8_t answer = trestlecap_log_night(state, length, night, quarters == 97 ? 96 : quarters);
+    uint8_t answer = trestlecap_log_night(state, length, night, quarters == 97 ? 96 : quarters, wrap);
     if (answer == TRESTLECAP_DONE)
         state[FIGURES + night] = quarters;
     return answer;
 }
 
-static uint8_t log_writes_again(uint8_t *state, size_t length, uint8_t night, uint8_t quarters)
+static uint8_t log_writes_again(uint8_t *state, size_t length, uint8_t night, uint8_t quarters, uint8_t *wrap)
 {
-    uint8_t answer = trestlecap_log_night(state, length, night, quarters);
+    uint8_t answer = trestlecap_log_night(state, length, night, quarters, wrap);
     if (answer == TRESTLECAP_ALREADY_WRITTEN) {
         state[MARKS + night] = 0;
-        answer = trestlecap_log_night(state, length, night, quarters);
+        answer = trestlecap_log_night(state, length, night, quarters, wrap);
     }
+    return answer;
+}
+
+static uint8_t log_leaves_wrap(uint8_t *state, size_t length, uint8_t night, uint8_t quarters, uint8_t *wrap)
+{
+    uint8_t unseen;
+    (void)wrap;
+    return trestlecap_log_night(state, length, night, quarters, &unseen);
+}
+
+static uint8_t log_wraps_though_refused(uint8_t *state, size_t length, uint8_t night, uint8_t quarters, uint8_t *wrap)
+{
+    *wrap = 0;
+    return trestlecap_log_night(state, length, night, quarters, wrap);
+}
+
+/* As the last transfer alone says it, which sets address 00. That of the last data write, or of the first, is right:
+   night 23 passes both ends, and no other night passes one. */
+static uint8_t log_never_wraps(uint8_t *state, size_t length, uint8_t night, uint8_t quarters, uint8_t *wrap)
+{
+    uint8_t answer = trestlecap_log_night(state, length, night, quarters, wrap);
+    if (answer == TRESTLECAP_DONE)
+        *wrap = 0;
+    return answer;
+}
+
+static uint8_t log_always_wraps(uint8_t *state, size_t length, uint8_t night, uint8_t quarters, uint8_t *wrap)
+{
+    uint8_t answer = trestlecap_log_night(state, length, night, quarters, wrap);
+    if (answer == TRESTLECAP_DONE)
+        *wrap = 1;
+    return answer;
+}
+
+/* Both ends that it passed, counted. */
+static uint8_t log_counts_wraps(uint8_t *state, size_t length, uint8_t night, uint8_t quarters, uint8_t *wrap)
+{
+    uint8_t answer = trestlecap_log_night(state, length, night, quarters, wrap);
+    if (answer == TRESTLECAP_DONE)
+        *wrap *= 2;
     return answer;
 }
 
@@ -708,6 +1016,7 @@ const struct wrong wrong[] = {
     { "list: 6 before 16", { .run_list = list_room_before_state } },
     { "list: room rounded up to a whole event", { .run_list = list_room_rounded_up } },
     { "list: room one byte short taken", { .run_list = list_room_a_byte_short } },
+    { "list: room of two bytes an event taken", { .run_list = list_room_of_two_bytes } },
     { "list: an empty one refused", { .run_list = list_empty_refused } },
     { "list: 4,096 events refused", { .run_list = list_full_refused } },
     { "list: 4,097 events taken", { .run_list = list_of_4097_taken } },
@@ -721,6 +1030,22 @@ const struct wrong wrong[] = {
     { "list: value before answer", { .run_list = list_value_before_answer } },
     { "list: the half that waits forgotten", { .run_list = list_forgets_half } },
     { "list: state kept where an event is refused", { .run_list = list_keeps_state_where_refused } },
+    { "list: two bytes an event", { .run_list = list_of_two_bytes_an_event } },
+    { "list: wrap left as it was", { .run_list = list_leaves_wrap } },
+    { "list: wrap before the value read", { .run_list = list_wrap_before_value } },
+    { "list: wrap always 0", { .run_list = list_never_wraps } },
+    { "list: wrap inverted", { .run_list = list_wrap_inverted } },
+    { "list: wrap 255", { .run_list = list_wrap_of_255 } },
+    { "list: wrap of the first event alone", { .run_list = list_wrap_of_first_alone } },
+    { "list: wrap of every event behind one", { .run_list = list_wrap_from_there_on } },
+    { "list: wrap with the first half", { .run_list = list_wrap_with_first_half } },
+    { "list: no wrap for data writes", { .run_list = list_no_wrap_for_data_writes } },
+    { "list: no wrap for data reads", { .run_list = list_no_wrap_for_data_reads } },
+    { "list: no wrap for cursor moves", { .run_list = list_no_wrap_for_cursor_moves } },
+    { "list: no wrap downwards", { .run_list = list_no_wrap_downwards } },
+    { "list: no wrap in character memory", { .run_list = list_no_wrap_in_character_memory } },
+    { "list: no wrap between 27 and 40", { .run_list = list_no_wrap_between_lines } },
+    { "list: wrap where an instruction sets the address", { .run_list = list_wrap_for_address_set } },
     { "state: busy low byte first", { .run_list = list_busy_low_byte_first } },
     { "state: 160 bytes taken", { .restart = restart_takes_160 } },
     { "state: 158 bytes taken", { .restart = restart_takes_158 } },
@@ -745,11 +1070,19 @@ const struct wrong wrong[] = {
     { "text: cut to 16 characters", { .text = text_cut_to_16 } },
     { "text: 18 before 17", { .text = text_before_ready } },
     { "text: state written on refusal", { .text = text_waits_though_refused } },
+    { "text: wrap left as it was", { .text = text_leaves_wrap } },
+    { "text: wrap written when refused", { .text = text_wraps_though_refused } },
+    { "text: wrap always 1", { .text = text_always_wraps } },
     { "log: night and quarters exchanged", { .log_night = log_exchanged } },
     { "log: 12 before 11", { .log_night = log_quarters_before_night } },
     { "log: 13 before 12", { .log_night = log_written_before_quarters } },
     { "log: 97 quarter hours taken", { .log_night = log_takes_97 } },
     { "log: a night written again", { .log_night = log_writes_again } },
+    { "log: wrap left as it was", { .log_night = log_leaves_wrap } },
+    { "log: wrap written when refused", { .log_night = log_wraps_though_refused } },
+    { "log: wrap always 0", { .log_night = log_never_wraps } },
+    { "log: wrap always 1", { .log_night = log_always_wraps } },
+    { "log: wraps counted", { .log_night = log_counts_wraps } },
     { "look-up: 11 before 16", { .look_up = look_up_night_before_state } },
     { "look-up: quarters written when refused", { .look_up = look_up_writes_though_refused } },
     { "look-up: quarters left as they were", { .look_up = look_up_leaves_quarters } },

@@ -5,7 +5,7 @@ use borrow.Author.Tests.{le-leb, lt-leb}
 use lib.Dec.{leb, leb→le}
 use lib.ListN.{length, drop, getD}
 use lib.Seq.{drop-cons, drop-length}
-use mathlib.Core.Bool.{Bool, true, false, cond, _&&_}
+use mathlib.Core.Bool.{Bool, true, false, cond, _&&_, and-false}
 use mathlib.Core.List.{List, [], _∷_}
 use mathlib.Core.Path.{_≡_, refl, _∙_, subst⁻¹}
 use native.Mathlib.Numerals.{add-one}
@@ -15,7 +15,6 @@ use Rattle.text.specs.Text.{meantBy}
 use Rattle.arguments.specs.Words.{allDigits, isEmpty, numberIn}
 use Rattle.arguments.specs.declared.number.Number.{Number}
 use Rattle.arguments.specs.declared.number.Number.the-variants.{Decimal, NoNumber}
-use Rattle.arguments.proofs.Letters.{and-false}
 
 meant-grows : (n : ℕ) (word : List ℕ) → n ≤ meantBy n word
 meant-grows n [] = omega arith

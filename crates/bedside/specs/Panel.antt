@@ -1,13 +1,14 @@
--- What a panel call leaves: the controller that its events leave, or the controller as it was.
+-- What a panel call leaves: the controller that its events leave, or the controller as it was; and whether the counter passed an end.
 use Prim.Native.Nat.{ℕ}
 use lib.Dec.{eqb}
 use lib.ListN.{length}
-use mathlib.Core.Bool.{cond}
-use mathlib.Core.List.{List}
+use mathlib.Core.Bool.{Bool, false, cond, _||_}
+use mathlib.Core.List.{List, [], _∷_}
 use mathlib.Core.Path.{_≡_}
-use Rattle.bus.specs.Events.{afterEvents}
+use Rattle.bus.specs.Events.{afterEvents, saidBy}
 use Rattle.calls.specs.Events.{callEvents}
 use Rattle.calls.specs.declared.Call.{Call}
+use Rattle.controller.specs.Answers.{Said}
 use Rattle.controller.specs.declared.Controller.{Controller}
 use Rattle.bedside.specs.Answers.{numberOf}
 use Rattle.bedside.specs.Refusals.{callAnswer}
@@ -18,7 +19,19 @@ unfoldable pub callLeaves : Controller → Call → (characters : List ℕ) → 
 callLeaves c call characters =
     cond (eqb (callAnswer c call (length characters)) 0) (afterEvents (callEvents (c .registers .bus) call characters) c) c
 
--- what a call promises: its number, and the controller
+-- ---- past an end (request 8/12)
+-- one of these answers says yes
+unfoldable pub anyWrap : List Said → Bool
+anyWrap [] = false
+anyWrap (said ∷ more) = said .wrap || anyWrap more
+
+-- "yes if one of its data writes did": its instructions set addresses, and say no. A refused call says no
+unfoldable pub callWraps : Controller → Call → (characters : List ℕ) → Bool
+callWraps c call characters =
+    cond (eqb (callAnswer c call (length characters)) 0) (anyWrap (saidBy (callEvents (c .registers .bus) call characters) c)) false
+
+-- what a call promises: its number, the controller, and whether the counter passed an end
 pub record Calling (c : Controller) (call : Call) (characters : List ℕ) (o : Outcome) : Type 0 where
   pub number : numberOf (o .answer) ≡ callAnswer c call (length characters)
   pub controller : o .controller ≡ callLeaves c call characters
+  pub wrap : o .wrap ≡ callWraps c call characters

@@ -6,5 +6,6 @@ pub mod Cells
 pub mod Reading
 pub mod Busy
 pub mod Free
+pub mod Wraps
 pub mod Settled
 pub mod Written

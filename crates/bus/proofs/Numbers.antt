@@ -46,7 +46,7 @@ told-number : (b : Bool) (s t : Told) (m : ℕ) → s .said .number ≡ m → t 
 told-number true s t m e f = e
 told-number false s t m e f = f
 
-transfer-number : (c : Controller) (k : Kind) (n : ℕ) → transferOf c k n .said .number ≡ firstOf (transferRules c k n) 0
+pub transfer-number : (c : Controller) (k : Kind) (n : ℕ) → transferOf c k n .said .number ≡ firstOf (transferRules c k n) 0
 unfolding transferOf firstOf resultFor
 transfer-number c k n =
     let r = c .registers in

@@ -25,7 +25,7 @@ use Rattle.bus.specs.Transfer.{transferOf, waitedTold, waitOf}
 module _ (P : Result → Type 0) (r : Registers) where
   -- each of the ways in which a whole byte comes out: an instruction is done as its row says, or is refused with 3
   pub record Ways : Type 0 where
-    pub obeyed : (n : ℕ) → T (not (rowOf (decode n) r .lacks)) → P (done 0 (rowOf (decode n) r .ticks) (rowOf (decode n) r .effect) (rowOf (decode n) r .change))
+    pub obeyed : (n : ℕ) → T (not (rowOf (decode n) r .lacks)) → P (done (rowOf (decode n) r .wrap) 0 (rowOf (decode n) r .ticks) (rowOf (decode n) r .effect) (rowOf (decode n) r .change))
     pub lacking : P (forgotten 3 r)
     pub written : (n : ℕ) → P (writeData r n)
     pub status : (v : ℕ) → P (readStatus r v)

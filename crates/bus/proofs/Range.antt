@@ -64,18 +64,18 @@ effect-placed : (n : ℕ) (r : Registers) → Placed r → EffectPlaced r (decod
 unfolding EffectPlaced rowOf rearranged hasCounter hasCharacter
 effect-placed n r p =
     of-decoded (EffectPlaced r) n (record {
-      nothing = λ t. p;
+      nothing = λ h t. p;
       clear = λ e t. record { counter = home-placed r .counter; shift = home-placed r .shift };
-      home = λ t. home-placed r;
-      entry = λ e t. record { counter = p .counter; shift = p .shift };
-      lights = λ l t. record { counter = p .counter; shift = p .shift };
-      move = λ d right t. moved-placed d right r p;
-      set = λ b m t. record {
+      home = λ h t. home-placed r;
+      entry = λ h e t. record { counter = p .counter; shift = p .shift };
+      lights = λ h l t. record { counter = p .counter; shift = p .shift };
+      move = λ l h t. moved-placed _ _ r p;
+      set = λ l b m t. record {
         counter = unless-changed (λ lines k. T (hasCounter lines k)) (r .mode .lines) (m .lines) (p .counter) (home-exists (m .lines));
         shift = unless-changed (λ lines s. T (hasShift lines s)) (r .mode .lines) (m .lines) (p .shift) (no-shift-exists (m .lines));
       };
-      character = λ t. record { counter = le→leb (n % 0x40) 0x3F (omega arith); shift = p .shift };
-      display = λ a t. record { counter = not-not (hasDisplay (r .mode .lines) a) t; shift = p .shift };
+      character = λ l t. record { counter = le→leb (n % 0x40) 0x3F (omega arith); shift = p .shift };
+      display = λ l a t. record { counter = not-not (hasDisplay (r .mode .lines) a) t; shift = p .shift };
     })
 
 -- ---- a whole byte leaves no half and a busy time of the table

@@ -7,7 +7,7 @@ use Rattle.bus.specs.Transfer.{told}
 
 pub transfer-settled : TransferSettled
 transfer-settled o p t e f =
-    settled-by {r = o} {s = p} told (λ x. record { controller = x .controller; answer = answerOf (x .said) })
-    (λ x. ap (λ a. record { controller = x .controller; answer = a }) (answer-back (x .answer)))
+    settled-by {r = o} {s = p} told (λ x. record { controller = x .controller; answer = answerOf (x .said); wrap = x .said .wrap })
+    (λ x. ap (λ a. record { controller = x .controller; answer = a; wrap = x .wrap }) (answer-back (x .answer) (x .wrap)))
     e
     f

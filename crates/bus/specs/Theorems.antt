@@ -2,24 +2,27 @@
 use Prim.Native.Nat.{ℕ, _-_, _≤_}
 use lib.Dec.{T, eqb}
 use lib.ListN.{getD, replicate}
-use mathlib.Core.Bool.{Bool, false, _&&_, cond, not}
+use mathlib.Core.Bool.{Bool, true, false, _&&_, cond, not}
 use mathlib.Core.List.{List}
 use mathlib.Core.Logic.{_⊎_, _≢_}
 use mathlib.Core.Path.{_≡_}
-use Rattle.condition.specs.First.{Exactly}
-use Rattle.controller.specs.Part.{with, awaiting, longest, inRange}
+use Rattle.condition.specs.First.{firstOf, Exactly}
+use Rattle.controller.specs.Part.{with, awaiting, passesEnd, longest, inRange}
 use Rattle.controller.specs.Told.{Told}
 use Rattle.controller.specs.declared.Controller.{Controller}
+use Rattle.controller.specs.declared.registers.Registers.{Registers}
 use Rattle.counters.specs.Address.{cellOf}
 use Rattle.counters.specs.declared.LineMode.{LineMode}
 use Rattle.counters.specs.declared.counter.Counter.{Counter}
 use Rattle.counters.specs.declared.counter.Counter.the-variants.{Display, Character}
 use Rattle.event.specs.Kind.{isRead}
 use Rattle.event.specs.declared.Event.{Event}
+use Rattle.event.specs.declared.Event.the-variants.{Transfer, Wait}
 use Rattle.event.specs.declared.Kind.{Kind}
 use Rattle.event.specs.declared.Kind.the-variants.{InstructionWrite, DataWrite, StatusRead, DataRead}
 use Rattle.halves.specs.declared.Half.{Half}
-use Rattle.instructions.specs.Instructions.{decode, rowOf}
+use Rattle.instructions.specs.Instructions.{bit, decode, rowOf}
+use Rattle.instructions.specs.Theorems.{isCursorMove}
 use Rattle.bus.specs.Events.{toldBy, reached, waits, sum}
 use Rattle.bus.specs.Refusals.{byteOf, transferRules, waitRules}
 use Rattle.bus.specs.Transfer.{told, transferOf, waitOf}
@@ -113,6 +116,33 @@ WaitLowers = (c : Controller) (n : ℕ) → T (inRange (c .registers)) → waitO
 -- after waits of 3,750 ticks in all with no transfer between, the next transfer is not refused with 1
 abbrev pub WaitedEnough : Type 0
 WaitedEnough = (c : Controller) (ns : List ℕ) → longest ≤ sum ns → (k : Kind) (n : ℕ) → transferOf (waits ns c) k n .said .number ≢ 1
+
+-- ---- past an end (request 8/12)
+-- a transfer that completes this byte steps the counter: data, and a cursor move (10 to 17)
+unfoldable pub stepsCounter : Kind → (byte : ℕ) → Bool
+stepsCounter InstructionWrite n = isCursorMove n
+stepsCounter DataWrite n = true
+stepsCounter StatusRead n = false
+stepsCounter DataRead n = true
+
+-- up: data in the set direction, a cursor move if bit 2 = 1
+unfoldable pub stepsUp : Kind → Registers → (byte : ℕ) → Bool
+stepsUp InstructionWrite r n = bit 2 n
+stepsUp DataWrite r n = r .entry .up
+stepsUp StatusRead r n = r .entry .up
+stepsUp DataRead r n = r .entry .up
+
+-- it is answered 0, steps the counter, and that step passes an end
+unfoldable pub passes : Event → Controller → Bool
+passes (Transfer k n) c =
+    eqb (firstOf (transferRules c k n) 0) 0
+    && (stepsCounter k (byteOf (c .registers) n)
+    && passesEnd (stepsUp k (c .registers) (byteOf (c .registers) n)) (c .registers))
+passes (Wait n) c = false
+
+-- an event says yes exactly then: no with a status read, a first half, a refusal, every other instruction and a wait
+abbrev pub WrapExactly : Type 0
+WrapExactly = (e : Event) (c : Controller) → toldBy e c .said .wrap ≡ passes e c
 
 -- ---- any two outcomes that a promise allows are equal
 abbrev pub TransferSettled : Type 0

@@ -1,7 +1,7 @@
 -- "Refusal numbers": one transfer and one wait, with the refusals in their order: 16 first, then the lower number.
 use Prim.Native.Nat.{ℕ}
 use mathlib.Core.Bool.{cond}
-use Rattle.controller.specs.Answers.{saying, saidOf}
+use Rattle.controller.specs.Answers.{saying, wrapping, saidOf}
 use Rattle.controller.specs.Part.{with, waited, inRange}
 use Rattle.controller.specs.Told.{Told, unchanged}
 use Rattle.controller.specs.declared.Controller.{Controller}
@@ -11,7 +11,7 @@ use Rattle.bus.specs.declared.Outcome.{Outcome}
 
 -- what is told of an outcome of the code
 abbrev pub told : Outcome → Told
-told o = record { said = saidOf (o .answer); controller = o .controller }
+told o = record { said = wrapping (o .wrap) (saidOf (o .answer)); controller = o .controller }
 
 -- 16: the controller handed in is not in range; the whole state is left
 unfoldable pub transferOf : Controller → Kind → ℕ → Told

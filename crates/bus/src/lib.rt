@@ -12,6 +12,8 @@ use event::Kind;
 pub struct Outcome {
     pub controller: Controller,
     pub answer: Answer,
+    // Whether the counter passed an end.
+    pub wrap: bool,
 }
 
 pub fn transfer(controller: Controller, kind: Kind, value: u8) -> Outcome
@@ -22,6 +24,7 @@ pub fn transfer(controller: Controller, kind: Kind, value: u8) -> Outcome
         return Outcome {
             controller,
             answer: Answer::NotInRange,
+            wrap: false,
         };
     }
     let mut display = controller.display;
@@ -36,6 +39,7 @@ pub fn transfer(controller: Controller, kind: Kind, value: u8) -> Outcome
             registers: after,
         },
         answer,
+        wrap: effect.wrap,
     }
 }
 
@@ -47,6 +51,7 @@ pub fn wait(controller: Controller, ticks: u16) -> Outcome
         return Outcome {
             controller,
             answer: Answer::NotInRange,
+            wrap: false,
         };
     }
     let after = registers.waited(ticks);
@@ -56,5 +61,6 @@ pub fn wait(controller: Controller, ticks: u16) -> Outcome
             ..controller
         },
         answer: Answer::Done(0),
+        wrap: false,
     }
 }

@@ -23,14 +23,17 @@ pub(crate) fn transferred(
 {
     let mut after = registers;
     let mut answer = Answer::Busy;
+    let mut wrap = false;
     if !step::refused_busy(registers, kind) {
         let effect = step::step(display, character, registers, kind, value);
         after = effect.registers;
         answer = effect.answer;
+        wrap = effect.wrap;
     }
     Effect {
         registers: after,
         answer,
+        wrap,
     }
 }
 
@@ -46,11 +49,13 @@ pub fn turn(
 {
     let mut after = registers;
     let mut answer = Answer::Done(0);
+    let mut wrap = false;
     match event {
         Event::Transfer(kind, value) => {
             let effect = transferred(display, character, registers, kind, value);
             after = effect.registers;
             answer = effect.answer;
+            wrap = effect.wrap;
         }
         Event::Wait(ticks) => {
             after = registers.waited(ticks);
@@ -59,5 +64,6 @@ pub fn turn(
     Effect {
         registers: after,
         answer,
+        wrap,
     }
 }

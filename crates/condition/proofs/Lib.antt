@@ -1,3 +1,4 @@
 pub mod Tests
 pub mod Settled
 pub mod First
+pub mod Flag

@@ -1,7 +1,7 @@
 -- Tests as facts, and one computed test for every number below a bound.
 use Prim.Native.Nat.{ℕ, zero, suc, _<_}
 use lib.Dec.{T, eqb, eqb-refl, T-not}
-use mathlib.Core.Bool.{Bool, true, false, cond, _&&_, _||_, not}
+use mathlib.Core.Bool.{Bool, true, false, cond, _&&_, _||_, not, Bool·beq}
 use mathlib.Core.Logic.{_⊎_, _≢_, inl, inr, ⊎-elim}
 use mathlib.Core.Path.{_≡_, _∙_, ap, refl, subst, sym}
 use native.Mathlib.Nat.{not-suc-le-zero, eq-or-lt-of-le, le-of-suc-le-suc}
@@ -32,6 +32,12 @@ and-both false b t u = t
 pub or-cases : (a b : Bool) → T (a || b) → T a ⊎ T b
 or-cases true b t = inl tt
 or-cases false b t = inr t
+
+pub same : (a b : Bool) → T (Bool·beq a b) → a ≡ b
+same true true t = refl
+same true false t = absurd t
+same false true t = absurd t
+same false false t = refl
 
 -- a fact of a choice, from its two cases
 pub split {ℓ} : {A : Type ℓ} (P : A → Type 0) (t : Bool) {x y : A} → (T t → P x) → (T (not t) → P y) → P (cond t x y)

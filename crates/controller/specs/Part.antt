@@ -5,7 +5,7 @@ use lib.ListN.{replicate}
 use mathlib.Core.Bool.{Bool, true, false, _&&_}
 use mathlib.Core.List.{List}
 use Rattle.counters.specs.Address.{display}
-use Rattle.counters.specs.Counter.{hasCounter, stepOf}
+use Rattle.counters.specs.Counter.{hasCounter, stepOf, passesOf}
 use Rattle.counters.specs.Shift.{shift, hasShift, moveOf}
 use Rattle.counters.specs.declared.LineMode.the-variants.{One}
 use Rattle.counters.specs.declared.counter.Counter.{Counter}
@@ -38,9 +38,12 @@ lit r l = record { counter = r .counter; shift = r .shift; mode = r .mode; entry
 abbrev pub awaiting : Registers → Half → ℕ → Registers
 awaiting r h t = record { counter = r .counter; shift = r .shift; mode = r .mode; entry = r .entry; lights = r .lights; bus = r .bus; half = h; busy = t }
 
--- ---- the counter one step on, in whichever memory it belongs to
+-- ---- the counter one step on, in whichever memory it belongs to, and whether that step passes an end
 abbrev pub counterStepped : (up : Bool) → Registers → Counter
 counterStepped up r = stepOf (r .mode .lines) up (r .counter)
+
+abbrev pub passesEnd : (up : Bool) → Registers → Bool
+passesEnd up r = passesOf (r .mode .lines) up (r .counter)
 
 -- ---- the shift once the display has moved
 abbrev pub shiftMoved : (right : Bool) → Registers → Shift

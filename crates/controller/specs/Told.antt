@@ -1,7 +1,7 @@
 -- What a caller is told of a transfer or a wait, and the controller that it gets back.
 use Prim.Native.Nat.{ℕ}
 use mathlib.Core.List.{List}
-use Rattle.controller.specs.Answers.{Said, refused, saidOf}
+use Rattle.controller.specs.Answers.{Said, wrapping, refused, saidOf}
 use Rattle.controller.specs.Memory.{byteAt, displayAfter, characterAfter}
 use Rattle.controller.specs.Part.{with}
 use Rattle.controller.specs.Result.{Result}
@@ -14,7 +14,7 @@ pub record Told : Type 0 where
 
 -- what is told of an effect of the code that left these two memories
 abbrev pub toldWith : (display character : List ℕ) → Effect → Told
-toldWith d m e = record { said = saidOf (e .answer); controller = with d m (e .registers) }
+toldWith d m e = record { said = wrapping (e .wrap) (saidOf (e .answer)); controller = with d m (e .registers) }
 
 -- the byte that the counter addresses
 abbrev pub addressed : Controller → ℕ

@@ -1,9 +1,11 @@
 // The registers: all of the part but its two memories.
 ghost use mathlib.Core.Path.{_≡_};
-ghost use Rattle.controller.specs.Part.{inRange, waited as waitedOf, counterStepped, shiftMoved};
+ghost use Rattle.counters.specs.Counter.{steppedOf};
+ghost use Rattle.controller.specs.Part.{inRange, waited as waitedOf, shiftMoved};
 use super::Controller;
 use counters::LineMode;
 use counters::counter::Counter;
+use counters::counter::Stepped;
 use counters::shift::Shift;
 use halves::Half;
 use halves::LineCount;
@@ -61,9 +63,9 @@ impl Registers {
         Registers { busy, ..self }
     }
 
-    // The counter one step on.
-    pub fn counter_stepped(self, up: bool) -> Counter
-        ensures { λ r. ⌜ r ≡ counterStepped up self ⌝ }
+    // The counter one step on, and whether it passed an end.
+    pub fn counter_stepped(self, up: bool) -> Stepped
+        ensures { λ r. ⌜ r ≡ steppedOf (self .mode .lines) up (self .counter) ⌝ }
     {
         let mode = self.mode;
         let lines = mode.lines;

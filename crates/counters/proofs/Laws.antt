@@ -1,15 +1,15 @@
 -- Address and cell, steps of the counter, moves of the display: each law one computed test of all numbers.
 use Prim.Native.Nat.{ℕ, _<_}
 use lib.Dec.{T, ltb, leb, eqb, ltb→lt, leb→le, eqb→eq}
-use mathlib.Core.Bool.{Bool, true, false, not, _&&_}
+use mathlib.Core.Bool.{Bool, true, false, not, _&&_, Bool·beq}
 use mathlib.Core.Logic.{⊎-elim}
 use mathlib.Core.Path.{ap}
 use native.Mathlib.Omega.{arith}
-use Rattle.condition.proofs.Tests.{each, every, _⇒_, implies, and-right, or-cases}
-use Rattle.counters.specs.Address.{display, character, cell, hasDisplay, hasCharacter, cellOf, addressOf, stepDisplay, stepCharacter}
-use Rattle.counters.specs.Counter.{hasCounter, stepOf, numberOn}
+use Rattle.condition.proofs.Tests.{each, every, _⇒_, implies, and-right, or-cases, same}
+use Rattle.counters.specs.Address.{display, character, cell, hasDisplay, hasCharacter, cellOf, addressOf, stepDisplay, stepCharacter, endsDisplay, endsCharacter, passesDisplay, passesCharacter}
+use Rattle.counters.specs.Counter.{hasCounter, stepOf, passesOf, numberOn}
 use Rattle.counters.specs.Shift.{shift, lastShift, hasShift, moveOf}
-use Rattle.counters.specs.Theorems.{CellExists, AddressComesBack, AddressExists, CellComesBack, StepExists, StepBack, NumberBelow, MoveExists, MoveBack}
+use Rattle.counters.specs.Theorems.{CellExists, AddressComesBack, AddressExists, CellComesBack, StepExists, StepBack, isBeside, PassesExactly, NumberBelow, MoveExists, MoveBack}
 use Rattle.counters.specs.Wrap.{next, previous}
 use Rattle.counters.specs.declared.LineMode.{LineMode}
 use Rattle.counters.specs.declared.LineMode.the-variants.{One, Two}
@@ -85,6 +85,11 @@ unfolding hasCounter hasCharacter numberOn
 number-below mode (Display a) t = display-below mode (a .0) t
 number-below mode (Character a) t = omega (arith, leb→le (a .0) 0x3F t)
 
+-- the rules of the counter, opened by one name
+counting : Unit {0}
+unfolding hasCounter hasDisplay hasCharacter numberOn stepOf stepDisplay stepCharacter next previous
+counting = tt
+
 display-steps : Bool → LineMode → ℕ → Bool
 display-steps up mode n = hasCounter mode (stepOf mode up (Display (display n)))
 
@@ -96,7 +101,7 @@ unfolding hasCharacter
 on-character law all a t = each law 0x40 all (a .0) (omega (arith, leb→le (a .0) 0x3F t))
 
 pub step-exists : StepExists
-unfolding display-steps character-steps OnDisplay hasCounter hasDisplay hasCharacter stepOf stepDisplay stepCharacter next previous
+unfolding display-steps character-steps OnDisplay counting
 step-exists true mode (Display a) t = on-display (display-steps true) (tt, tt) mode a t
 step-exists false mode (Display a) t = on-display (display-steps false) (tt, tt) mode a t
 step-exists true mode (Character a) t = on-character (character-steps true) tt a t
@@ -109,11 +114,26 @@ character-returns : Bool → ℕ → Bool
 character-returns up n = eqb (numberOn (stepOf One (not up) (stepOf One up (Character (character n))))) n
 
 pub step-back : StepBack
-unfolding display-returns character-returns OnDisplay hasCounter hasDisplay hasCharacter numberOn stepOf stepDisplay stepCharacter next previous
+unfolding display-returns character-returns OnDisplay counting
 step-back true mode (Display a) t = ap (λ n. Display (display n)) (eqb→eq _ _ (on-display (display-returns true) (tt, tt) mode a t))
 step-back false mode (Display a) t = ap (λ n. Display (display n)) (eqb→eq _ _ (on-display (display-returns false) (tt, tt) mode a t))
 step-back true mode (Character a) t = ap (λ n. Character (character n)) (eqb→eq _ _ (on-character (character-returns true) tt a t))
 step-back false mode (Character a) t = ap (λ n. Character (character n)) (eqb→eq _ _ (on-character (character-returns false) tt a t))
+
+display-passes : Bool → LineMode → ℕ → Bool
+display-passes up mode n =
+    Bool·beq (passesOf mode up (Display (display n))) (not (isBeside up n (numberOn (stepOf mode up (Display (display n))))))
+
+character-passes : Bool → ℕ → Bool
+character-passes up n =
+    Bool·beq (passesOf One up (Character (character n))) (not (isBeside up n (numberOn (stepOf One up (Character (character n))))))
+
+pub passes-exactly : PassesExactly
+unfolding display-passes character-passes OnDisplay counting passesOf passesDisplay passesCharacter endsDisplay endsCharacter
+passes-exactly true mode (Display a) t = same _ _ (on-display (display-passes true) (tt, tt) mode a t)
+passes-exactly false mode (Display a) t = same _ _ (on-display (display-passes false) (tt, tt) mode a t)
+passes-exactly true mode (Character a) t = same _ _ (on-character (character-passes true) tt a t)
+passes-exactly false mode (Character a) t = same _ _ (on-character (character-passes false) tt a t)
 
 -- ---- one move of the display
 pub no-shift-exists : (mode : LineMode) → T (hasShift mode (shift 0))

@@ -47,3 +47,24 @@ stepDisplay Two false a = display (cond (eqb (a .0) 0x40) 0x27 (previous 0x67 (a
 -- 3F to 00 in character memory; a step down is the reverse (ours)
 unfoldable pub stepCharacter : (up : Bool) → CharacterAddress → CharacterAddress
 stepCharacter up a = character (wrapped up 0x3F (a .0))
+
+-- ---- past an end (request 8/12)
+-- a step up passes one with one line from 4F to 00; with two from 27 to 40, and from 67 to 00
+unfoldable pub endsDisplay : LineMode → (from to : ℕ) → Bool
+endsDisplay One from to = eqb from 0x4F && eqb to 0x00
+endsDisplay Two from to = (eqb from 0x27 && eqb to 0x40) || (eqb from 0x67 && eqb to 0x00)
+
+-- in character memory from 3F to 00
+unfoldable pub endsCharacter : (from to : ℕ) → Bool
+endsCharacter from to = eqb from 0x3F && eqb to 0x00
+
+-- "or any of these downwards"
+abbrev pub eitherWay : (up : Bool) → (ends : ℕ → ℕ → Bool) → (from to : ℕ) → Bool
+eitherWay true ends from to = ends from to
+eitherWay false ends from to = ends to from
+
+unfoldable pub passesDisplay : LineMode → (up : Bool) → DisplayAddress → Bool
+passesDisplay mode up a = eitherWay up (endsDisplay mode) (a .0) (stepDisplay mode up a .0)
+
+unfoldable pub passesCharacter : (up : Bool) → CharacterAddress → Bool
+passesCharacter up a = eitherWay up endsCharacter (a .0) (stepCharacter up a .0)

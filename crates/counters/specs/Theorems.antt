@@ -1,10 +1,10 @@
 -- What is proved of addresses, cells, the counter and the shift that exist.
-use Prim.Native.Nat.{_<_}
-use lib.Dec.{T}
-use mathlib.Core.Bool.{Bool, not}
+use Prim.Native.Nat.{ℕ, _+_, _<_}
+use lib.Dec.{T, eqb}
+use mathlib.Core.Bool.{Bool, true, false, not}
 use mathlib.Core.Path.{_≡_}
 use Rattle.counters.specs.Address.{hasDisplay, cellOf, addressOf}
-use Rattle.counters.specs.Counter.{hasCounter, stepOf, numberOn}
+use Rattle.counters.specs.Counter.{hasCounter, stepOf, passesOf, numberOn}
 use Rattle.counters.specs.Shift.{hasShift, moveOf}
 use Rattle.counters.specs.declared.LineMode.{LineMode}
 use Rattle.counters.specs.declared.address.Cell.{Cell}
@@ -34,6 +34,17 @@ StepExists = (up : Bool) (mode : LineMode) (k : Counter) → T (hasCounter mode 
 
 abbrev pub StepBack : Type 0
 StepBack = (up : Bool) (mode : LineMode) (k : Counter) → T (hasCounter mode k) → stepOf mode (not up) (stepOf mode up k) ≡ k
+
+-- the new address is the old one plus 1, of a step down minus 1
+abbrev pub isBeside : (up : Bool) → (from to : ℕ) → Bool
+isBeside true from to = eqb to (from + 1)
+isBeside false from to = eqb from (to + 1)
+
+-- it passes an end exactly when it is not
+abbrev pub PassesExactly : Type 0
+PassesExactly =
+    (up : Bool) (mode : LineMode) (k : Counter) → T (hasCounter mode k)
+    → passesOf mode up k ≡ not (isBeside up (numberOn k) (numberOn (stepOf mode up k)))
 
 -- the number of an address leaves the highest bit free for the busy flag
 abbrev pub NumberBelow : Type 0

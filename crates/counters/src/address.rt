@@ -1,7 +1,7 @@
 // Addresses on the bus and cells of storage, kept apart: only the line mode turns one into the other.
 ghost use mathlib.Core.Bool.{true, false};
 ghost use mathlib.Core.Path.{_≡_};
-ghost use Rattle.counters.specs.Address.{display, hasDisplay, hasCharacter, cellOf, stepDisplay, stepCharacter};
+ghost use Rattle.counters.specs.Address.{display, hasDisplay, hasCharacter, cellOf, stepDisplay, stepCharacter, passesDisplay, passesCharacter};
 use super::LineMode;
 use super::wrap::next;
 use super::wrap::previous;
@@ -52,6 +52,23 @@ impl DisplayAddress {
             }
         }
     }
+
+    // Whether the step from here passes an end.
+    pub(crate) fn passes(self, mode: LineMode, up: bool) -> bool
+        ensures { λ r. ⌜ r ≡ passesDisplay mode up self ⌝ }
+    {
+        let n = self.0;
+        match mode {
+            LineMode::One => { if up { n == 0x4f } else { n == 0x00 } }
+            LineMode::Two => {
+                if up {
+                    (n == 0x27) | (n == 0x67)
+                } else {
+                    (n == 0x40) | (n == 0x00)
+                }
+            }
+        }
+    }
 }
 
 // With two lines there is no address between 27 and 40.
@@ -78,5 +95,12 @@ impl CharacterAddress {
         ensures { λ r. ⌜ r ≡ stepCharacter up self ⌝ }
     {
         CharacterAddress(wrapped(up, 0x3f, self.0))
+    }
+    // Whether the step from here passes an end.
+    pub(crate) fn passes(self, up: bool) -> bool
+        ensures { λ r. ⌜ r ≡ passesCharacter up self ⌝ }
+    {
+        let n = self.0;
+        if up { n == 0x3f } else { n == 0x00 }
     }
 }

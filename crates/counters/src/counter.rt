@@ -1,6 +1,6 @@
 // The address counter, which belongs to one of the two memories.
 ghost use mathlib.Core.Path.{_≡_};
-ghost use Rattle.counters.specs.Counter.{hasCounter, stepOf, numberOn};
+ghost use Rattle.counters.specs.Counter.{hasCounter, steppedOf, numberOn};
 use super::LineMode;
 use super::address::CharacterAddress;
 use super::address::DisplayAddress;
@@ -8,6 +8,12 @@ use super::address::DisplayAddress;
 pub enum Counter {
     Display(DisplayAddress),
     Character(CharacterAddress),
+}
+
+// One step: the counter behind it, and whether it passed an end.
+pub struct Stepped {
+    pub counter: Counter,
+    pub wrap: bool,
 }
 
 impl Counter {
@@ -21,12 +27,18 @@ impl Counter {
     }
 
     // One step within its memory, up or down.
-    pub fn step(self, mode: LineMode, up: bool) -> Counter
-        ensures { λ r. ⌜ r ≡ stepOf mode up self ⌝ }
+    pub fn step(self, mode: LineMode, up: bool) -> Stepped
+        ensures { λ r. ⌜ r ≡ steppedOf mode up self ⌝ }
     {
         match self {
-            Counter::Display(a) => Counter::Display(a.step(mode, up)),
-            Counter::Character(a) => Counter::Character(a.step(up)),
+            Counter::Display(a) => Stepped {
+                counter: Counter::Display(a.step(mode, up)),
+                wrap: a.passes(mode, up),
+            },
+            Counter::Character(a) => Stepped {
+                counter: Counter::Character(a.step(up)),
+                wrap: a.passes(up),
+            },
         }
     }
 

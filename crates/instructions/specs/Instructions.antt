@@ -3,7 +3,7 @@ use Prim.Native.Nat.{ℕ, _/_, _%_, _^_}
 use lib.Dec.{ltb, eqb}
 use mathlib.Core.Bool.{Bool, true, false, cond, not}
 use Rattle.controller.specs.Memory.{Change}
-use Rattle.controller.specs.Part.{placed, arranged, entered, lit, counterStepped, shiftMoved}
+use Rattle.controller.specs.Part.{placed, arranged, entered, lit, counterStepped, passesEnd, shiftMoved}
 use Rattle.controller.specs.Result.{Result, done, forgotten}
 use Rattle.controller.specs.declared.registers.Registers.{Registers}
 use Rattle.counters.specs.Address.{display, character, hasDisplay}
@@ -53,6 +53,11 @@ unfoldable pub moved : (display right : Bool) → Registers → Registers
 moved false right r = placed r (counterStepped right r) (r .shift)
 moved true right r = placed r (r .counter) (shiftMoved right r)
 
+-- only the counter's step can pass an end
+unfoldable pub movesPast : (display right : Bool) → Registers → Bool
+movesPast false right r = passesEnd right r
+movesPast true right r = false
+
 -- what stays as it was unless N changes
 unfoldable pub unlessChanged : {A : Type 0} (before after : LineMode) → (old new : A) → A
 unlessChanged One One old new = old
@@ -68,40 +73,42 @@ rearranged after r =
     (unlessChanged (r .mode .lines) after (r .shift) (shift 0))
 
 -- ---- the table
--- a row: the registers afterwards, the change of memory, the ticks, and whether it names a display address that the line mode lacks
+-- a row: the registers afterwards, the change of memory, the ticks, whether it names a display address that the line mode lacks,
+-- and whether it steps the counter past an end
 pub record Row : Type 0 where
   pub effect : Registers
   pub change : Change
   pub ticks : ℕ
   pub lacks : Bool
+  pub wrap : Bool
 
--- no memory changes, and no display address is named
+-- no memory changes, no display address is named, and no end passed
 abbrev row : Registers → (ticks : ℕ) → Row
-row r t = record { effect = r; change = Change.Nothing; ticks = t; lacks = false }
+row r t = record { effect = r; change = Change.Nothing; ticks = t; lacks = false; wrap = false }
 
 unfoldable pub rowOf : Instruction → Registers → Row
 -- 00: none (ours)
 rowOf Nothing r = row r 10
 -- 01: clear: all display cells 20 hex, address 00 of display memory, shift 0; it also sets the direction to up and keeps shift on write (request 3/12)
 rowOf Clear r =
-    record { effect = entered (homed r) (record { up = true; shifts = r .entry .shifts }); change = Change.Clear; ticks = 410; lacks = false }
+    record { effect = entered (homed r) (record { up = true; shifts = r .entry .shifts }); change = Change.Clear; ticks = 410; lacks = false; wrap = false }
 -- 02-03: home: address 00 of display memory, shift 0
 rowOf Home r = row (homed r) 410
 -- 04-07: direction, and shift on write
 rowOf (EntryMode e) r = row (entered r e) 10
 -- 08-0F: display, cursor, blink
 rowOf (OnOff l) r = row (lit r l) 10
--- 10-1F: counter one step, or display right or left
-rowOf (Move d right) r = row (moved d right r) 10
+-- 10-1F: counter one step, which says whether it passes an end, or display right or left
+rowOf (Move d right) r = record { effect = moved d right r; change = Change.Nothing; ticks = 10; lacks = false; wrap = movesPast d right r }
 -- 20-3F: eight lines or four, N and F
 rowOf (FunctionSet b m) r = row (arranged (rearranged (m .lines) r) b m) 10
 -- 40-7F: character address
 rowOf (SetCharacter a) r = row (placed r (Character a) (r .shift)) 10
 -- 80-FF: display address
 rowOf (SetDisplay a) r =
-    record { effect = placed r (Display a) (r .shift); change = Change.Nothing; ticks = 10; lacks = not (hasDisplay (r .mode .lines) a) }
+    record { effect = placed r (Display a) (r .shift); change = Change.Nothing; ticks = 10; lacks = not (hasDisplay (r .mode .lines) a); wrap = false }
 
 -- an instruction is done as its row says, or refused with 3: display address that the line mode lacks
 unfoldable pub obey : Instruction → Registers → Result
 unfolding rowOf
-obey i r = cond (rowOf i r .lacks) (forgotten 3 r) (done 0 (rowOf i r .ticks) (rowOf i r .effect) (rowOf i r .change))
+obey i r = cond (rowOf i r .lacks) (forgotten 3 r) (done (rowOf i r .wrap) 0 (rowOf i r .ticks) (rowOf i r .effect) (rowOf i r .change))

@@ -1,10 +1,10 @@
 -- What is proved of the instructions beside the promises.
 use Prim.Native.Nat.{ℕ, _<_, _≤_, _%_}
-use lib.Dec.{T, eqb}
-use mathlib.Core.Bool.{not, _||_}
+use lib.Dec.{T, leb, eqb}
+use mathlib.Core.Bool.{Bool, _&&_, _||_, not}
 use mathlib.Core.Path.{_≡_}
 use Rattle.controller.specs.Memory.{Change}
-use Rattle.controller.specs.Part.{longest}
+use Rattle.controller.specs.Part.{passesEnd, longest}
 use Rattle.controller.specs.Result.{resultOf}
 use Rattle.controller.specs.declared.effect.Effect.{Effect}
 use Rattle.controller.specs.declared.registers.Registers.{Registers}
@@ -41,6 +41,13 @@ AnswersDoneOrThree = (i : Instruction) (r : Registers) → T (eqb (obey i r .sai
 -- only Clear, the byte 01, changes a memory
 abbrev pub OnlyClearChanges : Type 0
 OnlyClearChanges = (b : ℕ) (r : Registers) → T (not (eqb b 0x01)) → obey (decode b) r .change ≡ Change.Nothing
+
+-- only a cursor move, the bytes 10 to 17, can pass an end, up if bit 2 = 1
+abbrev pub isCursorMove : ℕ → Bool
+isCursorMove b = leb 0x10 b && leb b 0x17
+
+abbrev pub OnlyCursorMovesPass : Type 0
+OnlyCursorMovesPass = (b : ℕ) (r : Registers) → rowOf (decode b) r .wrap ≡ (isCursorMove b && passesEnd (bit 2 b) r)
 
 -- none takes more ticks than switching on
 abbrev pub TicksFit : Type 0

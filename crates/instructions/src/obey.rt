@@ -2,7 +2,7 @@
 ghost use mathlib.Core.Path.{_≡_};
 ghost use Rattle.controller.specs.Part.{arranged as arrangedOf};
 ghost use Rattle.controller.specs.Result.{resultOf};
-ghost use Rattle.instructions.specs.Instructions.{homed as homedOf, moved as movedOf, rearranged as rearrangedOf, obey as obeyOf};
+ghost use Rattle.instructions.specs.Instructions.{homed as homedOf, rearranged as rearrangedOf, obey as obeyOf};
 ghost use Rattle.instructions.specs.Obeyed.{obeyedAs};
 use super::instruction::Instruction;
 use controller::Controller;
@@ -26,22 +26,6 @@ fn homed(registers: Registers) -> Registers
         counter: Counter::Display(DisplayAddress(0x00)),
         shift: Shift(0),
         ..registers
-    }
-}
-
-fn moved(registers: Registers, display: bool, right: bool) -> Registers
-    ensures { λ r. ⌜ r ≡ movedOf display right registers ⌝ }
-{
-    if display {
-        Registers {
-            shift: registers.shift_moved(right),
-            ..registers
-        }
-    } else {
-        Registers {
-            counter: registers.counter_stepped(right),
-            ..registers
-        }
     }
 }
 
@@ -80,6 +64,7 @@ pub struct Obeyed {
     registers: Registers,
     ticks: u16,
     answer: Answer,
+    wrap: bool,
 }
 
 fn row_of(registers: Registers, instruction: Instruction) -> Obeyed
@@ -90,6 +75,7 @@ fn row_of(registers: Registers, instruction: Instruction) -> Obeyed
     let mut after = registers;
     let mut ticks = Controller::SHORT;
     let mut answer = Answer::Done(0);
+    let mut wrap = false;
     match instruction {
         Instruction::Nothing => {}
         Instruction::Clear => {
@@ -114,7 +100,20 @@ fn row_of(registers: Registers, instruction: Instruction) -> Obeyed
             };
         }
         Instruction::Move { display, right } => {
-            after = moved(registers, display, right);
+            if display {
+                after = Registers {
+                    shift: registers.shift_moved(right),
+                    ..registers
+                };
+            } else {
+                let stepped = registers.counter_stepped(right);
+                let counter = stepped.counter;
+                after = Registers {
+                    counter,
+                    ..registers
+                };
+                wrap = stepped.wrap;
+            }
         }
         Instruction::FunctionSet(bus, mode) => {
             after = arranged(registers, bus, mode);
@@ -141,6 +140,7 @@ fn row_of(registers: Registers, instruction: Instruction) -> Obeyed
         registers: after,
         ticks,
         answer,
+        wrap,
     }
 }
 
@@ -157,5 +157,6 @@ pub fn obey(registers: Registers, instruction: Instruction) -> Effect
             ..after
         },
         answer,
+        wrap: row.wrap,
     }
 }

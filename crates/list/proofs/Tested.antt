@@ -19,11 +19,11 @@ module _ (r : Registers) (events : List ℕ) (room : ℕ) where
   refused-range out = rw out
 
   module _ (ranged : inRange r ≡ true) where
-    pub refused-room : room < length events / 3 * 2 → 6 ≡ answerFor r events room
+    pub refused-room : room < length events / 3 * 3 → 6 ≡ answerFor r events room
     unfolding answerFor firstOf
     refused-room h = rw (ranged, lt-ltb room (roomFor events) (omega arith))
 
-    module _ (roomy : length events / 3 * 2 ≤ room) (count : ℕ) (counted : count ≡ length (eventsIn events)) where
+    module _ (roomy : length events / 3 * 3 ≤ room) (count : ℕ) (counted : count ≡ length (eventsIn events)) where
       pub refused-events : (count * 3 ≡ length events → ⊥) → 9 ≡ answerFor r events room
       unfolding answerFor firstOf
       refused-events n = rw (ranged, le-ltb room (roomFor events) (omega arith), bad-events-by-front events, ← counted, ne-eqb (count * 3) (length events) n)

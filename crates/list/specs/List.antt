@@ -1,4 +1,5 @@
--- 7/12: "take a list of events, three bytes each as in the bench record without its head, and return two bytes an event, answer and value read".
+-- 7/12: "take a list of events, three bytes each as in the bench record without its head, and return two bytes an event, answer and value read";
+-- 8/12: "answers become three bytes an event, the third 0 or 1, and 6 asks for three".
 use Prim.Native.Nat.{ℕ, _*_, _/_}
 use lib.Dec.{ltb, eqb}
 use lib.ListN.{length}
@@ -14,11 +15,11 @@ use Rattle.lent.specs.Buffer.{unlessRefused}
 use Rattle.record.specs.Record.{eventsIn, badEvents}
 use Rattle.run.specs.Run.{answerBytes}
 
--- two bytes for each whole event
+-- three bytes for each whole event
 abbrev pub roomFor : (events : List ℕ) → ℕ
-roomFor events = 2 * (length events / 3)
+roomFor events = 3 * (length events / 3)
 
--- "16 …; 6 output below two bytes for each whole event; 9 as for records; in that order"
+-- "16 …; 6 output below …" three bytes "for each whole event; 9 as for records; in that order"
 abbrev pub refusals : Registers → (events : List ℕ) (room : ℕ) → List Rule
 refusals r events room = (16 when not (inRange r)) ∷ (6 when ltb room (roomFor events)) ∷ (9 when badEvents events) ∷ []
 
@@ -29,7 +30,7 @@ answerFor r events room = firstOf (refusals r events room) 0
 unfoldable pub leftFor : Controller → (events : List ℕ) (room : ℕ) → Controller
 leftFor c events room = cond (eqb (answerFor (c .registers) events room) 0) (afterEvents (eventsIn events) c) c
 
--- answer and value read of each; "bytes behind the answers stay"
+-- answer, value read and wrap of each; "bytes behind the answers stay"
 unfoldable pub bufferFor : Controller → (events answers : List ℕ) → List ℕ
 bufferFor c events answers = unlessRefused (answerFor (c .registers) events (length answers)) (answerBytes (saidBy (eventsIn events) c)) answers
 

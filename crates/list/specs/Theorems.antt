@@ -38,7 +38,7 @@ RefusedListLeaves =
 -- answered as it is if they are given one after the other, and the controller is the one that they leave; none stops the rest
 abbrev pub ListIsItsEvents : Type 0
 ListIsItsEvents =
-    (c : Controller) (events : List Event) (answers : List ℕ) → T (inRange (c .registers)) → AllFit events → length events ≤ mostEvents → length events * 2 ≤ length answers
+    (c : Controller) (events : List Event) (answers : List ℕ) → T (inRange (c .registers)) → AllFit events → length events ≤ mostEvents → length events * 3 ≤ length answers
     → (answerFor (c .registers) (bodyOf events) (length answers) ≡ 0)
     × (leftFor c (bodyOf events) (length answers) ≡ afterEvents events c)
     × (bufferFor c (bodyOf events) answers ≡ over (answerBytes (saidBy events c)) answers)

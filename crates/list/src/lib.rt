@@ -1,4 +1,4 @@
-// A whole list of events in one call: three bytes each as in the bench record, without its head, and two bytes an answer.
+// A whole list of events in one call: three bytes each as in the bench record, without its head, and three bytes an answer.
 ghost use lib.ListN.{length};
 ghost use mathlib.Core.Path.{_≡_};
 ghost use Rattle.list.specs.Answers.{numberOf};

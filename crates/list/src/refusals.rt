@@ -15,7 +15,7 @@ pub(crate) fn answer_to(controller: Controller, events: &[u8], room: usize) -> A
         return Answer::NotInRange;
     }
     // An odd byte behind the whole events asks for no room.
-    if room < events.len() / 3 * 2 {
+    if room < events.len() / 3 * 3 {
         return Answer::ShortBuffer;
     }
     if front_length(events) * 3 != events.len() {

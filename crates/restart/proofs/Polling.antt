@@ -2,7 +2,7 @@
 use Prim.Native.Nat.{ℕ, _+_, _*_}
 use lib.Dec.{T, eqb}
 use lib.ListN.{take}
-use mathlib.Core.Bool.{Bool, true, false, not, _&&_}
+use mathlib.Core.Bool.{false, not, and-false}
 use mathlib.Core.List.{[], _∷_}
 use mathlib.Core.Path.{_≡_, _∙_, ap, refl, subst, subst⁻¹, sym}
 use Rattle.bus.proofs.Busy.{waited-told}
@@ -29,10 +29,6 @@ use Rattle.restart.proofs.Leads.{leads-to}
 use Rattle.restart.proofs.Restarting.{Allowed, calm-leads}
 
 -- ---- a status read is never refused with 1
-and-false : (b : Bool) → b && false ≡ false
-and-false true = refl
-and-false false = refl
-
 status-free : (r : Registers) → refusedBusy r StatusRead ≡ false
 unfolding refusedBusy
 status-free r = and-false (not (eqb (r .busy) 0))

@@ -31,7 +31,7 @@ module _ (value : ℕ) (small : value ≤ 255) where
   unfolding frontEvents eventOf
   two = ap (λ (found : Option Event). Wait 3750 ∷ before found []) written
 
-  pub two-runnable : (c : Controller) (answers : List ℕ) → inRange (c .registers) ≡ true → 4 ≤ length answers → Runnable c bytes answers
+  pub two-runnable : (c : Controller) (answers : List ℕ) → inRange (c .registers) ≡ true → 6 ≤ length answers → Runnable c bytes answers
   two-runnable c answers ranged room = record { in-range = ranged; whole = rw two refl; room = rw two room }
 
   pub two-leave : (c after : Controller) → inRange (c .registers) ≡ true → after ≡ afterEvents (frontEvents bytes) c

@@ -1,10 +1,11 @@
 -- "Proved examples": P1 to P11 as one list of cases, each from a part just switched on, busy waited out unless said.
 use Prim.Native.Nat.{ℕ}
 use lib.ListN.{getD, replicate}
+use mathlib.Core.Bool.{true}
 use mathlib.Core.List.{List, [], _∷_, _++_, map}
 use mathlib.Core.Path.{_≡_}
 use Rattle.bus.specs.Events.{toldBy, reached}
-use Rattle.controller.specs.Answers.{Said, saying}
+use Rattle.controller.specs.Answers.{Said, saying, wrapping}
 use Rattle.controller.specs.Part.{longest}
 use Rattle.controller.specs.declared.Controller.{Controller}
 use Rattle.counters.specs.declared.counter.Counter.{Counter}
@@ -76,12 +77,16 @@ abbrev case : List Event → Event → List Look → ℕ → ℕ → List ℕ �
 case before event looks number value sees =
     record { before = before; event = event; looks = looks; wanted = record { said = saying number value; sees = sees } }
 
+-- the same, where the counter passes an end (request 8/12)
+abbrev pastEnd : Case → Case
+pastEnd p = record { before = p .before; event = p .event; looks = p .looks; wanted = record { said = wrapping true (p .wanted .said); sees = p .wanted .sees } }
+
 unfoldable pub examples : List Case
 examples =
     -- P1 switched on, status reads 128
     case [] (Transfer StatusRead 0) [] 0 128 []
     -- P2 two lines: A7 then data 41 fills cell 39, address 40
-    ∷ case (calm (0x38 ∷ 0xA7 ∷ [])) (Transfer DataWrite 0x41) (Cell 39 ∷ DisplayAddress ∷ []) 0 0 (0x41 ∷ 0x40 ∷ [])
+    ∷ pastEnd (case (calm (0x38 ∷ 0xA7 ∷ [])) (Transfer DataWrite 0x41) (Cell 39 ∷ DisplayAddress ∷ []) 0 0 (0x41 ∷ 0x40 ∷ []))
     -- P3 A8: accepted with one line, refusal 3 with two
     ∷ case (calm []) (Transfer InstructionWrite 0xA8) (DisplayAddress ∷ []) 0 0 (0x28 ∷ [])
     ∷ case (calm (0x38 ∷ [])) (Transfer InstructionWrite 0xA8) (DisplayAddress ∷ []) 3 0 (0x00 ∷ [])
@@ -92,15 +97,15 @@ examples =
     ∷ case (calm (0x38 ∷ [])) (Transfer InstructionWrite 0xE7) (DisplayAddress ∷ []) 0 0 (0x67 ∷ [])
     ∷ case (calm (0x38 ∷ [])) (Transfer InstructionWrite 0xE8) (DisplayAddress ∷ []) 3 0 (0x00 ∷ [])
     -- P6 two lines, address 67, direction up, a write: address 00
-    ∷ case (calm (0x38 ∷ 0xE7 ∷ [])) (Transfer DataWrite 0x41) (DisplayAddress ∷ []) 0 0 (0x00 ∷ [])
+    ∷ pastEnd (case (calm (0x38 ∷ 0xE7 ∷ [])) (Transfer DataWrite 0x41) (DisplayAddress ∷ []) 0 0 (0x00 ∷ []))
     -- P7 after 04, address 00, a write: 4F with one line, 67 with two
-    ∷ case (calm (0x04 ∷ [])) (Transfer DataWrite 0x41) (DisplayAddress ∷ []) 0 0 (0x4F ∷ [])
-    ∷ case (calm (0x38 ∷ 0x04 ∷ [])) (Transfer DataWrite 0x41) (DisplayAddress ∷ []) 0 0 (0x67 ∷ [])
+    ∷ pastEnd (case (calm (0x04 ∷ [])) (Transfer DataWrite 0x41) (DisplayAddress ∷ []) 0 0 (0x4F ∷ []))
+    ∷ pastEnd (case (calm (0x38 ∷ 0x04 ∷ [])) (Transfer DataWrite 0x41) (DisplayAddress ∷ []) 0 0 (0x67 ∷ []))
     -- P8 two lines, 1C from shift 0: digit 0 shows cells 39 and 79; 18 instead: cells 1 and 41
     ∷ case (calm (0x38 ∷ [])) (Transfer InstructionWrite 0x1C) (DigitZero ∷ []) 0 0 (39 ∷ 79 ∷ [])
     ∷ case (calm (0x38 ∷ [])) (Transfer InstructionWrite 0x18) (DigitZero ∷ []) 0 0 (1 ∷ 41 ∷ [])
     -- P9 7F then a data write, direction up: character address 00
-    ∷ case (calm (0x7F ∷ [])) (Transfer DataWrite 0x1F) (CharacterAddress ∷ []) 0 0 (0x00 ∷ [])
+    ∷ pastEnd (case (calm (0x7F ∷ [])) (Transfer DataWrite 0x1F) (CharacterAddress ∷ []) 0 0 (0x00 ∷ []))
     -- P10 four lines, half 0 of an instruction waiting: the restart's first write completes 03 hex, home (from address 05 and shift 1)
     ∷ case (calm (0x85 ∷ 0x18 ∷ 0x20 ∷ 0x00 ∷ [])) (Transfer InstructionWrite 0x30) (DisplayAddress ∷ Shift ∷ BusyTime ∷ []) 0 0 (0x00 ∷ 0 ∷ 410 ∷ [])
     -- P11 four lines, a data half waiting, then an instruction half: refusal 2, no cell changed

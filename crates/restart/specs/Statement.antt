@@ -23,7 +23,7 @@ pub record Restarts (c : Controller) : Type 0 where
   -- afterwards it equals a part just switched on that was given the same two memories and a restart, with waits and lower lines of its own
   pub equal : (writes others : List Write) → Given halves writes c → Given halves others (freshLike c)
       → after halves writes c ≡ after halves others (freshLike c)
-  -- hence every later list of transfers and waits is answered alike,
+  -- hence every later list of transfers and waits is answered alike, the wrap of each included (request 8/12),
   pub told-alike : (writes others : List Write) → Given halves writes c → Given halves others (freshLike c) → (later : List Event)
       → saidBy later (after halves writes c) ≡ saidBy later (after halves others (freshLike c))
   -- and so is every picture along the way, for every digit count, ROM image, blink phase and lent buffer

@@ -25,7 +25,7 @@ fn write(controller: Controller, upper: u8, lower: u8) -> Controller
         0,
         upper * 16 + lower % 16,
     ];
-    let mut answers = [0u8; 4];
+    let mut answers = [0u8; 6];
     run_events(controller, &events, &mut answers)
 }
 
@@ -41,6 +41,7 @@ pub fn restart(controller: Controller, lower: [u8; 12]) -> Outcome
         return Outcome {
             controller,
             answer: Answer::NotInRange,
+            wrap: false,
         };
     }
     let mut after = controller;
@@ -49,8 +50,10 @@ pub fn restart(controller: Controller, lower: [u8; 12]) -> Outcome
         after = write(after, UPPER[i], lower[i]);
         i += 1;
     }
+    // What its writes say of the wrap is not handed on.
     Outcome {
         controller: after,
         answer: Answer::Done(0),
+        wrap: false,
     }
 }

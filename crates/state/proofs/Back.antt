@@ -7,6 +7,7 @@ use mathlib.Core.List.{List, _++_, append-assoc}
 use mathlib.Core.Path.{_≡_, refl, ap, _∙_}
 use native.Mathlib.Nat.{div-add-mod'}
 use native.Mathlib.Omega.{arith}
+use Rattle.condition.specs.Flag.{flagNumber}
 use Rattle.controller.specs.declared.Controller.{Controller}
 use Rattle.controller.specs.declared.registers.Registers.{Registers}
 use Rattle.counters.specs.Counter.{numberOn}
@@ -21,7 +22,7 @@ use Rattle.halves.specs.declared.Half.{Half}
 use Rattle.halves.specs.declared.Half.the-variants.{Nothing, Waiting}
 use Rattle.halves.specs.declared.LineCount.{LineCount}
 use Rattle.halves.specs.declared.LineCount.the-variants.{Eight, Four}
-use Rattle.state.specs.State.{memoryNumber, flagNumber, eightNumber, linesNumber, halfNumber, registersPut, putOf}
+use Rattle.state.specs.State.{memoryNumber, eightNumber, linesNumber, halfNumber, registersPut, putOf}
 use Rattle.state.specs.Taken.{counterRead, flagRead, busRead, linesRead, halfRead, registersRead, readOff}
 
 -- ---- a field

@@ -6,7 +6,6 @@ use lib.Seq.{take-all}
 use mathlib.Core.Bool.{Bool, true, false, _&&_}
 use mathlib.Core.List.{List, _++_, append-assoc}
 use mathlib.Core.Path.{_≡_, refl, sym, ap, _∙_}
-use mir.Val.{boolByte}
 use native.Mathlib.Omega.{arith}
 use Rattle.condition.specs.First.{firstOf}
 use Rattle.controller.specs.Part.{inRange, switchedOn, with}
@@ -18,16 +17,11 @@ use Rattle.lent.proofs.Placed.{puts-then}
 use Rattle.lent.specs.Buffer.{over}
 use Rattle.lent.specs.Put.{putAt, Puts}
 use Rattle.state.specs.Answers.{numberOf}
-use Rattle.state.specs.State.{flagNumber, registersPut, putOf}
+use Rattle.state.specs.State.{registersPut, putOf}
 use Rattle.state.specs.Taken.{registersRead, readOff, putAgain, isState, takenOf, answerFor, Putting, Taking}
 use Rattle.state.specs.declared.Taken.{Taken}
 use Rattle.state.specs.declared.answer.Answer.the-variants.{Done, ShortBuffer}
 use Rattle.state.proofs.Same.{same-told}
-
--- a flag as the code has it
-pub flag-number : (b : Bool) → boolByte b ≡ flagNumber b
-flag-number true = refl
-flag-number false = refl
 
 -- ---- put
 

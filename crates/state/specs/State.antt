@@ -1,7 +1,7 @@
 -- A controller as 159 bytes: the number of each field, and the bytes that a controller is put as.
 use Prim.Native.Nat.{ℕ, _+_, _/_, _%_}
-use mathlib.Core.Bool.{Bool, true, false}
 use mathlib.Core.List.{List, [], _∷_, _++_}
+use Rattle.condition.specs.Flag.{flagNumber}
 use Rattle.controller.specs.declared.Controller.{Controller}
 use Rattle.controller.specs.declared.registers.Registers.{Registers}
 use Rattle.counters.specs.Counter.{numberOn}
@@ -26,11 +26,6 @@ stateBytes = 159
 abbrev pub memoryNumber : Counter → ℕ
 memoryNumber (Display a) = 0
 memoryNumber (Character a) = 1
-
--- 0 or 1
-abbrev pub flagNumber : Bool → ℕ
-flagNumber false = 0
-flagNumber true = 1
 
 -- eight lines
 abbrev pub eightNumber : LineCount → ℕ

@@ -94,12 +94,12 @@ module _ (c : Controller) (k : Kind) (n : ℕ) (free : refusedBusy (c .registers
   stepped-joined = ap (carried c) (rw free (bus-joined k r n (readFrom c k) (r .bus)))
 
   pub first-steps : {h : Half} {v : ℕ} → isFirst (r .bus) (r .half) ≡ true → h ≡ Half.Waiting k (heldBy k n) → v ≡ upper (readFrom c k) * 16
-      → toldWith (c .display) (c .character) (record { registers = awaiting r h (r .busy); answer = Answer.FirstHalf v }) ≡ stepped c k n
+      → toldWith (c .display) (c .character) (record { registers = awaiting r h (r .busy); answer = Answer.FirstHalf v; wrap = false }) ≡ stepped c k n
   unfolding firstHalf displayAfter characterAfter
   first-steps e p q = rw (stepped-joined, first-agrees (r .bus) (r .half) k e, e, p, q)
 
   pub disagree-steps : disagrees (r .bus) (r .half) k ≡ true
-      → toldWith (c .display) (c .character) (record { registers = awaiting r Half.Nothing (r .busy); answer = Answer.HalvesDisagree }) ≡ stepped c k n
+      → toldWith (c .display) (c .character) (record { registers = awaiting r Half.Nothing (r .busy); answer = Answer.HalvesDisagree; wrap = false }) ≡ stepped c k n
   unfolding displayAfter characterAfter
   disagree-steps e = rw (stepped-joined, e)
 

@@ -1,9 +1,9 @@
 -- "Instructions": data and status, and the whole byte.
 use Prim.Native.Nat.{ℕ, _+_}
 use lib.Dec.{eqb}
-use mathlib.Core.Bool.{cond, not}
+use mathlib.Core.Bool.{false, cond, not}
 use Rattle.controller.specs.Memory.{Change, storeAt}
-use Rattle.controller.specs.Part.{placed, counterStepped, shiftMoved}
+use Rattle.controller.specs.Part.{placed, counterStepped, passesEnd, shiftMoved}
 use Rattle.controller.specs.Result.{Result, done}
 use Rattle.controller.specs.declared.registers.Registers.{Registers}
 use Rattle.counters.specs.Counter.{numberOn}
@@ -19,17 +19,18 @@ unfoldable pub shiftAfter : Counter → Registers → Shift
 shiftAfter (Display a) r = cond (r .entry .shifts) (shiftMoved (not (r .entry .up)) r) (r .shift)
 shiftAfter (Character a) r = r .shift
 
--- a data write stores the byte in the one addressed cell, then steps the counter in the set direction
+-- a data write stores the byte in the one addressed cell, then steps the counter in the set direction, which says whether it passes an end
 unfoldable pub writeData : Registers → (byte : ℕ) → Result
-writeData r n = done 0 10 (placed r (counterStepped (r .entry .up) r) (shiftAfter (r .counter) r)) (storeAt (r .mode .lines) (r .counter) n)
+writeData r n =
+    done (passesEnd (r .entry .up) r) 0 10 (placed r (counterStepped (r .entry .up) r) (shiftAfter (r .counter) r)) (storeAt (r .mode .lines) (r .counter) n)
 
--- a data read returns the addressed byte, steps the counter, never moves the display
+-- a data read returns the addressed byte, steps the counter, which says the same, never moves the display
 unfoldable pub readData : Registers → (value : ℕ) → Result
-readData r v = done v 10 (placed r (counterStepped (r .entry .up) r) (r .shift)) Change.Nothing
+readData r v = done (passesEnd (r .entry .up) r) v 10 (placed r (counterStepped (r .entry .up) r) (r .shift)) Change.Nothing
 
 -- a status read takes no ticks
 unfoldable pub readStatus : Registers → (value : ℕ) → Result
-readStatus r v = done v (r .busy) r Change.Nothing
+readStatus r v = done false v (r .busy) r Change.Nothing
 
 -- a status read returns 128 if busy, plus the address
 unfoldable pub statusOf : Registers → ℕ

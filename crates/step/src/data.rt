@@ -1,8 +1,8 @@
 // Data and status: what a data write, a data read and a status read do to the registers, and what they read.
 ghost use mathlib.Core.Bool.{true};
 ghost use mathlib.Core.Path.{_≡_};
-ghost use Rattle.controller.specs.Part.{placed, awaiting, counterStepped};
 ghost use Rattle.counters.specs.Counter.{hasCounter};
+ghost use Rattle.step.specs.Acted.{steppedTo};
 ghost use Rattle.step.specs.Data.{shiftAfter, statusOf};
 use controller::Controller;
 use controller::registers::Registers;
@@ -27,28 +27,44 @@ fn shift_after(registers: Registers) -> Shift
     }
 }
 
+// The registers once the counter has stepped, and whether it passed an end.
+pub struct Stepped {
+    pub registers: Registers,
+    pub wrap: bool,
+}
+
 // Behind a data write.
-pub(crate) fn written(registers: Registers) -> Registers
-    ensures { λ r. ⌜ r ≡ awaiting (placed registers (counterStepped (registers .entry .up) registers) (shiftAfter (registers .counter) registers)) (registers .half) 10 ⌝ }
+pub(crate) fn written(registers: Registers) -> Stepped
+    ensures { λ r. ⌜ r ≡ steppedTo (shiftAfter (registers .counter) registers) registers ⌝ }
 {
     let entry = registers.entry;
-    Registers {
-        counter: registers.counter_stepped(entry.up),
-        shift: shift_after(registers),
-        busy: Controller::SHORT,
-        ..registers
+    let step = registers.counter_stepped(entry.up);
+    let counter = step.counter;
+    Stepped {
+        registers: Registers {
+            counter,
+            shift: shift_after(registers),
+            busy: Controller::SHORT,
+            ..registers
+        },
+        wrap: step.wrap,
     }
 }
 
 // Behind a data read.
-pub(crate) fn read(registers: Registers) -> Registers
-    ensures { λ r. ⌜ r ≡ awaiting (placed registers (counterStepped (registers .entry .up) registers) (registers .shift)) (registers .half) 10 ⌝ }
+pub(crate) fn read(registers: Registers) -> Stepped
+    ensures { λ r. ⌜ r ≡ steppedTo (registers .shift) registers ⌝ }
 {
     let entry = registers.entry;
-    Registers {
-        counter: registers.counter_stepped(entry.up),
-        busy: Controller::SHORT,
-        ..registers
+    let step = registers.counter_stepped(entry.up);
+    let counter = step.counter;
+    Stepped {
+        registers: Registers {
+            counter,
+            busy: Controller::SHORT,
+            ..registers
+        },
+        wrap: step.wrap,
     }
 }
 

@@ -34,16 +34,20 @@ fn act(
     let bus = registers.bus;
     let mut after = registers;
     let mut answer = Answer::Done(0);
+    let mut wrap = false;
     match kind {
         Kind::InstructionWrite => {
             memory::clear(display, byte);
             let effect = obey(registers, decode(byte));
             after = effect.registers;
             answer = effect.answer;
+            wrap = effect.wrap;
         }
         Kind::DataWrite => {
             memory::store(display, character, registers, byte);
-            after = data::written(registers);
+            let stepped = data::written(registers);
+            after = stepped.registers;
+            wrap = stepped.wrap;
         }
         Kind::StatusRead => {
             answer = Answer::Done(answered(bus, data::status(registers)));
@@ -51,12 +55,15 @@ fn act(
         Kind::DataRead => {
             let read = memory::addressed(&*display, &*character, registers);
             answer = Answer::Done(answered(bus, read));
-            after = data::read(registers);
+            let stepped = data::read(registers);
+            after = stepped.registers;
+            wrap = stepped.wrap;
         }
     }
     Effect {
         registers: after,
         answer,
+        wrap,
     }
 }
 
@@ -98,6 +105,7 @@ pub fn step(
         ..registers
     };
     let mut answer = Answer::HalvesDisagree;
+    let mut wrap = false;
     if half.is_first(bus) {
         after = Registers {
             half: Half::of(kind, value),
@@ -109,9 +117,11 @@ pub fn step(
         let effect = act(display, character, after, kind, byte);
         after = effect.registers;
         answer = effect.answer;
+        wrap = effect.wrap;
     }
     Effect {
         registers: after,
         answer,
+        wrap,
     }
 }

@@ -17,7 +17,7 @@ use Rattle.table.specs.Contracts.{linesOf, Printable}
 use Rattle.table.specs.Table.{eventLines}
 use Rattle.table.proofs.Turns.{lines-by-bytes}
 
-module _ (bytes : List ℕ) (z : checkOf bytes ≡ 0) (c : Controller) (e : c ≡ startedFrom) (answers left : List ℕ) (after : Controller) (size : length left ≡ 2 * mostEvents)
+module _ (bytes : List ℕ) (z : checkOf bytes ≡ 0) (c : Controller) (e : c ≡ startedFrom) (answers left : List ℕ) (after : Controller) (size : length left ≡ 3 * mostEvents)
     (ran : RunsEvents c (take (length bytes - 3) (drop 3 bytes)) answers after left) where
   whole : length (frontEvents (drop 3 bytes)) * 3 ≡ length (drop 3 bytes)
   whole = sound-front bytes (sound bytes z) .0

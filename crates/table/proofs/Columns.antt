@@ -44,29 +44,29 @@ spaced-end numbers place out now next i h a = awaits-none (spaced numbers) place
 
 -- ---- a line
 
-module _ (number kind value answer read : ℕ) (w : Narrow number kind answer) (v : value < 65536) (r : read < 256) where
+module _ (number kind value answer read wrap : ℕ) (w : Narrow number kind answer wrap) (v : value < 65536) (r : read < 256) where
   abbrev columns : List ℕ
-  columns = spaced (number ∷ kind ∷ value ∷ answer ∷ [])
+  columns = spaced (number ∷ kind ∷ value ∷ answer ∷ read ∷ [])
 
   -- they and the byte behind each are no more than a line has
-  sizes : length columns + length (decimalOf read) < lineBytes
+  sizes : length columns + length (decimalOf wrap) < lineBytes
   unfolding spaced
   sizes =
       simp length-append
-      (omega (arith, digits-below 3 number (w .four), digits-below 0 kind (w .one), digits-below 4 value (omega arith), digits-below 1 answer (w .two), digits-below 2 read (omega arith)))
+      (omega (arith, digits-below 3 number (w .four), digits-below 0 kind (w .one), digits-below 4 value (omega arith), digits-below 1 answer (w .two), digits-below 2 read (omega arith), digits-below 0 wrap (w .last)))
 
   module _ (place : ℕ) (out : List ℕ) (room : place + lineBytes ≤ length out) where
     pub columns-room : place + length columns ≤ length out
     columns-room = omega (arith, sizes)
 
     module _ (next : ℕ) (mid : List ℕ) (p : Puts columns place out next mid) where
-      pub read-room : length mid ≡ length out → next + length (decimalOf read) < length mid
-      read-room long = omega (arith, sizes, p .next)
+      pub wrap-room : length mid ≡ length out → next + length (decimalOf wrap) < length mid
+      wrap-room long = omega (arith, sizes, p .next)
 
-      pub line-put : (end : ℕ) (left : List ℕ) → Puts (decimalOf read ++ textOf "\n") next mid end left → Puts (lineOf number kind value answer read) place out end left × (end ≤ place + lineBytes)
+      pub line-put : (end : ℕ) (left : List ℕ) → Puts (decimalOf wrap ++ textOf "\n") next mid end left → Puts (lineOf number kind value answer read wrap) place out end left × (end ≤ place + lineBytes)
       unfolding lineOf
       line-put end left q =
-          (puts-then place next end columns (decimalOf read ++ textOf "\n") out mid left (omega arith) p q, omega (arith, sizes, p .next, q .next, length-append (decimalOf read) (textOf "\n")))
+          (puts-then place next end columns (decimalOf wrap ++ textOf "\n") out mid left (omega arith) p q, omega (arith, sizes, p .next, q .next, length-append (decimalOf wrap) (textOf "\n")))
 
 -- the kind of an event is one digit
 kind-number-short : (kind : Kind) → kindNumber kind < 10

@@ -2,16 +2,16 @@
 use Prim.Native.Nat.{ℕ, _+_, _*_, _≤_, _<_}
 use lib.Dec.{T, lit≤}
 use lib.ListN.{length, drop, getD, drop-of-length-le}
-use lib.Seq.{drop-drop, getD-drop}
 use mathlib.Core.Bool.{Bool, true, false, _&&_, not}
 use mathlib.Core.List.{List, [], _∷_, _++_}
 use mathlib.Core.Option.{Option, none, some}
-use mathlib.Core.Path.{_≡_, refl, ap, _∙_}
+use mathlib.Core.Path.{_≡_, refl}
 use native.Mathlib.Omega.{arith}
 use Rattle.bus.proofs.Numbers.{transfer-given-exactly, wait-given-exactly}
 use Rattle.bus.specs.Events.{toldBy, saidBy}
 use Rattle.bus.specs.Refusals.{transferRules, waitRules}
 use Rattle.condition.specs.First.{Rule, ExactlyFrom}
+use Rattle.condition.specs.Flag.{flagNumber}
 use Rattle.controller.specs.declared.Controller.{Controller}
 use Rattle.event.specs.declared.Event.{Event}
 use Rattle.event.specs.declared.Event.the-variants.{Transfer, Wait}
@@ -26,7 +26,7 @@ use Rattle.table.specs.Contracts.{linesOf, AllNarrow}
 use Rattle.table.specs.Table.{lineOf, eventLines}
 use Rattle.table.proofs.Columns.{kind-short}
 
--- ---- an answer's number is at most two digits
+-- ---- an answer's number is at most two digits, and its wrap one
 
 EachBelow : (most : ℕ) → List Rule → Type 0
 EachBelow most [] = Unit {0}
@@ -46,6 +46,10 @@ unfolding toldBy EachBelow
 number-short (Transfer kind value) c = given-below 100 _ 0 (transferRules c kind value) (lit≤ tt, (lit≤ tt, (lit≤ tt, (lit≤ tt, (lit≤ tt, tt))))) (lit≤ tt) (transfer-given-exactly c kind value)
 number-short (Wait ticks) c = given-below 100 _ 0 (waitRules c) (lit≤ tt, tt) (lit≤ tt) (wait-given-exactly c ticks)
 
+flag-short : (b : Bool) → flagNumber b < 10
+flag-short true = lit≤ tt
+flag-short false = lit≤ tt
+
 -- ---- the lines of the events are those of their bytes beside the answers
 
 -- the answers to the events lie at the front
@@ -64,7 +68,7 @@ module _ (behind : List ℕ) where
   one-more kind high low body (some event) events e h rest number c =
       let raw = event-means kind (wordOf high low) event e .raw in
       let more = rest (omega arith) (number + 1) (toldBy event c .controller) in
-      (rw (raw, more .0) refl, (rw raw at (kind-short event), number-short event c, more .1))
+      (rw (raw, more .0) refl, (rw raw at (kind-short event), number-short event c, flag-short (toldBy event c .said .wrap), more .1))
 
   pub lines-by-bytes : (body : List ℕ) → length (frontEvents body) * 3 ≡ length body → (number : ℕ) (c : Controller) → Answered (frontEvents body) body number c
   unfolding frontEvents linesOf eventLines AllNarrow
@@ -76,28 +80,25 @@ module _ (behind : List ℕ) where
 
 -- ---- one line more
 
-module _ (events answers : List ℕ) (from at : ℕ) where
-  first-answer : getD (drop at answers) 0 0 ≡ getD answers at 0
-  first-answer = getD-drop at answers 0 0 ∙ ap (λ (k : ℕ). getD answers k 0) (omega arith)
-
-  pub narrow-on : AllNarrow (drop from events) (drop at answers) → from + 3 ≤ length events
-      → (getD events from 0 < 10) × (getD answers at 0 < 100) × AllNarrow (drop (from + 3) events) (drop (at + 2) answers)
+module _ (events answers : List ℕ) (from : ℕ) (fits : from + 3 ≤ length events) (answered : from + 3 ≤ length answers) where
+  pub narrow-on : AllNarrow (drop from events) (drop from answers)
+      → (getD events from 0 < 10) × (getD answers from 0 < 100) × (getD answers (from + 2) 0 < 10) × AllNarrow (drop (from + 3) events) (drop (from + 3) answers)
   unfolding AllNarrow
-  narrow-on n fits = rw (drop-three events from fits, first-answer, drop-drop 2 at answers) at n
+  narrow-on n = rw (drop-three events from fits, drop-three answers from answered) at n
 
   abbrev lineHere : ℕ → List ℕ
-  lineHere number = lineOf number (getD events from 0) (wordOf (getD events (from + 1) 0) (getD events (from + 2) 0)) (getD answers at 0) (getD answers (at + 1) 0)
+  lineHere number =
+      lineOf number (getD events from 0) (wordOf (getD events (from + 1) 0) (getD events (from + 2) 0)) (getD answers from 0) (getD answers (from + 1) 0) (getD answers (from + 2) 0)
 
-  lines-on : (number : ℕ) → from + 3 ≤ length events
-      → linesOf number (drop from events) (drop at answers) ≡ lineHere number ++ linesOf (number + 1) (drop (from + 3) events) (drop (at + 2) answers)
+  lines-on : (number : ℕ) → linesOf number (drop from events) (drop from answers) ≡ lineHere number ++ linesOf (number + 1) (drop (from + 3) events) (drop (from + 3) answers)
   unfolding linesOf
-  lines-on number fits = rw (drop-three events from fits, first-answer, getD-drop at answers 1 0, drop-drop 2 at answers) refl
+  lines-on number = rw (drop-three events from fits, drop-three answers from answered) refl
 
-  pub lines-turn : (number next : ℕ) (now text : List ℕ) (place : ℕ) (out : List ℕ) → Awaits (linesOf number (drop from events) (drop at answers)) next now text place out
-      → from + 3 ≤ length events → next ≤ length now → (then : ℕ) (left : List ℕ) → Puts (lineHere number) next now then left
-      → Awaits (linesOf (number + 1) (drop (from + 3) events) (drop (at + 2) answers)) then left text place out
-  lines-turn number next now text place out a fits =
-      awaits-more text place out (lineHere number) (linesOf (number + 1) (drop (from + 3) events) (drop (at + 2) answers)) next now (rw (lines-on number fits) at a)
+  pub lines-turn : (number next : ℕ) (now text : List ℕ) (place : ℕ) (out : List ℕ) → Awaits (linesOf number (drop from events) (drop from answers)) next now text place out
+      → next ≤ length now → (then : ℕ) (left : List ℕ) → Puts (lineHere number) next now then left
+      → Awaits (linesOf (number + 1) (drop (from + 3) events) (drop (from + 3) answers)) then left text place out
+  lines-turn number next now text place out a =
+      awaits-more text place out (lineHere number) (linesOf (number + 1) (drop (from + 3) events) (drop (from + 3) answers)) next now (rw (lines-on number) at a)
 
 -- no event is left
 pub lines-end : (events answers : List ℕ) (from number next : ℕ) (now text : List ℕ) (place : ℕ) (out : List ℕ) → length events ≤ from

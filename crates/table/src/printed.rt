@@ -9,13 +9,13 @@ use super::lines::put_lines;
 use text::put_refused;
 use text::put_text;
 
-pub(crate) const HEADING_BYTES: usize = 31;
+pub(crate) const HEADING_BYTES: usize = 36;
 
 fn put_table(bytes: &[u8], out: &mut [u8]) -> usize
     requires { ⌜ (checkOf (now bytes) ≡ 0) × (length (now bytes) ≤ mostBytes) × (mostText ≤ length (now out)) ⌝ }
     ensures { λ r. ⌜ Puts (tableOf (now (bytes .entry))) 0 (now (out .entry)) r (now (out .exit)) ⌝ }
 {
-    let next = put_text(b"event kind value answer result\n", 0, out);
+    let next = put_text(b"event kind value answer result wrap\n", 0, out);
     put_lines(bytes, next, out)
 }
 

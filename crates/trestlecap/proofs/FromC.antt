@@ -1,8 +1,13 @@
 -- The list from C is `run_list`, and a refused call writes nothing.
 use Prim.Native.Nat.{ℕ}
+use borrow.Author.Tests.{ne-eqb}
+use lib.ListN.{length}
 use mathlib.Core.List.{List}
 use mathlib.Core.Option.{Option, none, some}
 use mathlib.Core.Path.{_≡_, refl, sym, ap, _∙_}
+use Rattle.bedside.specs.Panel.{callWraps}
+use Rattle.bedside.specs.Refusals.{callAnswer}
+use Rattle.condition.specs.Flag.{flagNumber}
 use Rattle.controller.specs.declared.Controller.{Controller}
 use Rattle.list.proofs.Refused.{refused-list-leaves}
 use Rattle.state.proofs.Lengths.{taken-held, taken-put}
@@ -10,7 +15,7 @@ use Rattle.state.proofs.Theorems.{taken-exactly}
 use Rattle.state.specs.State.{putOf}
 use Rattle.state.specs.Taken.{takenOf}
 use Rattle.state.specs.Theorems.{Held}
-use Rattle.trestlecap.specs.Called.{ofHeld, numberOn, stateOn, bufferOn}
+use Rattle.trestlecap.specs.Called.{ofHeld, numberOn, stateOn, bufferOn, saidOr}
 use Rattle.trestlecap.specs.Theorems.{ListFromC, RefusedListWritesNothing, RefusedRestartWritesNothing, RefusedCallWritesNothing}
 use Rattle.trestlecap.proofs.Refused.{refused-call, refused-restart}
 
@@ -55,4 +60,12 @@ refused-restart-writes-nothing state r left p z = p .kept ∙ refused-state _ _ 
 
 pub refused-call-writes-nothing : RefusedCallWritesNothing
 unfolding numberOn stateOn
-refused-call-writes-nothing state call characters r left p z = p .kept ∙ refused-state _ _ (refused-call call characters) state (takenOf state) refl (λ y. z (p .number ∙ y))
+refused-call-writes-nothing state call characters wrap r left wrap′ p z = (
+  p .kept ∙ refused-state _ _ (refused-call call characters) state (takenOf state) refl (λ y. z (p .number ∙ y)),
+  p .said ∙ refused-said (takenOf state) (λ y. z (p .number ∙ y)),
+)
+  where
+    refused-said : (found : Option Controller) → (ofHeld 16 (λ c. callAnswer c call (length characters)) found ≡ 0 → ⊥)
+        → ofHeld wrap (λ c. saidOr (callAnswer c call (length characters)) wrap (flagNumber (callWraps c call characters))) found ≡ wrap
+    refused-said none y = refl
+    refused-said (some c) y = rw (ne-eqb (callAnswer c call (length characters)) 0 y) refl

@@ -1,5 +1,6 @@
 pub mod Held
 pub mod Refused
+pub mod Made
 pub mod Found
 pub mod Driven
 pub mod Mended

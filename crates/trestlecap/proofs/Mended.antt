@@ -4,6 +4,7 @@ use borrow.Author.Tests.{eq-eqb, ne-eqb}
 use lib.ListN.{length}
 use mathlib.Core.List.{List}
 use mathlib.Core.Path.{_≡_, refl, sym, ap, _∙_}
+use Rattle.condition.specs.Flag.{flagNumber}
 use Rattle.mending.specs.Answers.{numberOf}
 use Rattle.mending.specs.Mend.{keptOf, mendOf, toldOf, Mending}
 use Rattle.mending.specs.declared.answer.Answer.{Answer}
@@ -11,7 +12,7 @@ use Rattle.mending.specs.declared.answer.Answer.the-variants.{Done}
 use Rattle.mending.specs.declared.answer.Mended.{Mended}
 use Rattle.record.proofs.FrontEvents.{count-few}
 use Rattle.record.specs.Record.{mostEvents, eventsOf}
-use Rattle.trestlecap.specs.Called.{flagOf, MendingRecord}
+use Rattle.trestlecap.specs.Called.{MendingRecord}
 
 module _ (bytes out : List ℕ) (r : Answer) (left : List ℕ) (m : Mending bytes out r left) where
   module _ (said : Mended) (e : r ≡ Done said) where
@@ -25,7 +26,7 @@ module _ (bytes out : List ℕ) (r : Answer) (left : List ℕ) (m : Mending byte
     unfolding toldOf keptOf eventsOf
     kept-few = count-few _ _ (ap (λ (s : Mended). s .kept) said-told)
 
-    pub mended-said : (kept dropped altered : ℕ) → MendingRecord bytes out kept dropped altered 0 left (said .kept) (said .dropped) (flagOf (said .altered))
+    pub mended-said : (kept dropped altered : ℕ) → MendingRecord bytes out kept dropped altered 0 left (said .kept) (said .dropped) (flagNumber (said .altered))
     mended-said kept dropped altered =
         record {
           number = sym zero;

@@ -12,7 +12,7 @@ pub restart-settled : RestartSettled
 restart-settled state r s left left′ p q = (settled (p .number) (q .number), settled (p .kept) (q .kept))
 
 pub call-settled : CallSettled
-call-settled state call characters r s left left′ p q = (settled (p .number) (q .number), settled (p .kept) (q .kept))
+call-settled state call characters wrap r s left left′ w w′ p q = (settled (p .number) (q .number), settled (p .kept) (q .kept), settled (p .said) (q .said))
 
 pub look-up-settled : LookUpSettled
 look-up-settled state night written quarters r s w w′ m m′ p q = (settled (p .number) (q .number), settled (p .first) (q .first), settled (p .second) (q .second))

@@ -3,14 +3,15 @@ use Prim.Native.Nat.{ℕ}
 use lib.Dec.{eqb}
 use lib.Ieee.{Float}
 use lib.ListN.{length, replicate}
-use mathlib.Core.Bool.{Bool, true, false, cond}
+use mathlib.Core.Bool.{cond}
 use mathlib.Core.List.{List, [], _∷_}
 use mathlib.Core.Option.{Option, none, some}
 use mathlib.Core.Path.{_≡_}
 use Rattle.bedside.specs.Log.{lookUpAnswer, figureOf}
-use Rattle.bedside.specs.Panel.{callLeaves}
+use Rattle.bedside.specs.Panel.{callLeaves, callWraps}
 use Rattle.bedside.specs.Refusals.{callAnswer}
 use Rattle.calls.specs.declared.Call.{Call}
+use Rattle.condition.specs.Flag.{flagNumber}
 use Rattle.controller.specs.Part.{switchedOn}
 use Rattle.controller.specs.declared.Controller.{Controller}
 use Rattle.dots.specs.declared.phase.Phase.{Phase}
@@ -69,9 +70,15 @@ pub record Restarting (state : List ℕ) (r : ℕ) (left : List ℕ) : Type 0 wh
 
 -- ---- the bedside panel
 
-pub record MakingCall (state : List ℕ) (call : Call) (characters : List ℕ) (r : ℕ) (left : List ℕ) : Type 0 where
+-- a refused call leaves the number behind the pointer
+abbrev pub saidOr : (number was said : ℕ) → ℕ
+saidOr number was said = cond (eqb number 0) said was
+
+-- 8/12: whether one of its data writes passed an end, behind the pointer
+pub record MakingCall (state : List ℕ) (call : Call) (characters : List ℕ) (wrap r : ℕ) (left : List ℕ) (wrap′ : ℕ) : Type 0 where
   pub number : r ≡ numberOn (λ c. callAnswer c call (length characters)) state
   pub kept : left ≡ stateOn (λ c. callLeaves c call characters) state
+  pub said : wrap′ ≡ ofHeld wrap (λ c. saidOr (callAnswer c call (length characters)) wrap (flagNumber (callWraps c call characters))) (takenOf state)
 
 -- written or not yet, as 1 or 0; the figure, or 0
 abbrev pub writtenOf : Option ℕ → ℕ
@@ -118,17 +125,9 @@ pub record Driving (vdd span : ℕ) (bias : Bias) (volts : List Float) (r : ℕ)
 
 -- ---- a record mended
 
-abbrev pub flagOf : Bool → ℕ
-flagOf true = 1
-flagOf false = 0
-
--- a refused mend leaves the number behind the pointer
-abbrev pub saidOr : (number was said : ℕ) → ℕ
-saidOr number was said = cond (eqb number 0) said was
-
 pub record MendingRecord (bytes mended : List ℕ) (kept dropped altered r : ℕ) (left : List ℕ) (kept′ dropped′ altered′ : ℕ) : Type 0 where
   pub number : r ≡ mendOf bytes (length mended)
   pub buffer : left ≡ unlessRefused (mendOf bytes (length mended)) (mendedOf bytes) mended
   pub first : kept′ ≡ saidOr (mendOf bytes (length mended)) kept (toldOf bytes .kept)
   pub second : dropped′ ≡ saidOr (mendOf bytes (length mended)) dropped (toldOf bytes .dropped)
-  pub third : altered′ ≡ saidOr (mendOf bytes (length mended)) altered (flagOf (toldOf bytes .altered))
+  pub third : altered′ ≡ saidOr (mendOf bytes (length mended)) altered (flagNumber (toldOf bytes .altered))

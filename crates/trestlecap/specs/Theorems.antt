@@ -31,7 +31,9 @@ abbrev pub RefusedRestartWritesNothing : Type 0
 RefusedRestartWritesNothing = (state : List ℕ) (r : ℕ) (left : List ℕ) → Restarting state r left → (r ≡ 0 → ⊥) → left ≡ state
 
 abbrev pub RefusedCallWritesNothing : Type 0
-RefusedCallWritesNothing = (state : List ℕ) (call : Call) (characters : List ℕ) (r : ℕ) (left : List ℕ) → MakingCall state call characters r left → (r ≡ 0 → ⊥) → left ≡ state
+RefusedCallWritesNothing =
+    (state : List ℕ) (call : Call) (characters : List ℕ) (wrap r : ℕ) (left : List ℕ) (wrap′ : ℕ) → MakingCall state call characters wrap r left wrap′ → (r ≡ 0 → ⊥)
+    → (left ≡ state) × (wrap′ ≡ wrap)
 
 -- ---- any two outcomes that a promise allows are equal
 
@@ -49,8 +51,8 @@ RestartSettled = (state : List ℕ) (r s : ℕ) (left left′ : List ℕ) → Re
 -- of a text and of a night logged
 abbrev pub CallSettled : Type 0
 CallSettled =
-    (state : List ℕ) (call : Call) (characters : List ℕ) (r s : ℕ) (left left′ : List ℕ) → MakingCall state call characters r left → MakingCall state call characters s left′
-    → (r ≡ s) × (left ≡ left′)
+    (state : List ℕ) (call : Call) (characters : List ℕ) (wrap r s : ℕ) (left left′ : List ℕ) (w w′ : ℕ)
+    → MakingCall state call characters wrap r left w → MakingCall state call characters wrap s left′ w′ → (r ≡ s) × (left ≡ left′) × (w ≡ w′)
 
 abbrev pub LookUpSettled : Type 0
 LookUpSettled =

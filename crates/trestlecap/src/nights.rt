@@ -1,32 +1,41 @@
 // The bedside panel: a text, a night logged, a night looked up.
+ghost use lib.ListN.{length};
 ghost use mathlib.Core.List.{[]};
+ghost use mathlib.Core.Path.{_≡_};
 ghost use Rattle.calls.specs.declared.Call.{Call};
+ghost use Rattle.state.specs.State.{stateBytes};
 ghost use Rattle.trestlecap.specs.Called.{MakingCall, LookingUp};
+ghost use Rattle.trestlecap.specs.Contracts.{Made};
 use super::keeping::keep;
 use bedside::Night;
+use bedside::Outcome;
 use bedside::log_night;
 use bedside::look_up;
 use bedside::text;
 use state::take;
 
-#[no_mangle]
-pub extern "C" fn trestlecap_text(state: &mut [u8], line: u8, characters: &[u8]) -> u8
-    ensures { λ r. ⌜ MakingCall (now (state .entry)) (Call.Text line) (now (characters .entry)) r (now (state .exit)) ⌝ }
+// What a call leaves is put back, and its wrap said, unless it was refused; its number is handed on.
+fn made(outcome: Outcome, state: &mut [u8], wrap: &mut u8) -> u8
+    requires { ⌜ length (now state) ≡ stateBytes ⌝ }
+    ensures { λ r. ⌜ Made outcome (now (state .entry)) (now (wrap .entry)) r (now (state .exit)) (now (wrap .exit)) ⌝ }
 {
-    let taken = take(state);
-    let answer = taken.answer;
+    let answer = outcome.answer;
     let refused = answer.number();
     if refused != 0 {
         return refused;
     }
-    let outcome = text(taken.controller, line, characters);
-    let told = outcome.answer;
-    keep(told.number(), outcome.controller, state)
+    *wrap = outcome.wrap as u8;
+    keep(0, outcome.controller, state)
 }
 
 #[no_mangle]
-pub extern "C" fn trestlecap_log_night(state: &mut [u8], night: u8, quarters: u8) -> u8
-    ensures { λ r. ⌜ MakingCall (now (state .entry)) (Call.Log night quarters) [] r (now (state .exit)) ⌝ }
+pub extern "C" fn trestlecap_text(
+    state: &mut [u8],
+    line: u8,
+    characters: &[u8],
+    wrap: &mut u8,
+) -> u8
+    ensures { λ r. ⌜ MakingCall (now (state .entry)) (Call.Text line) (now (characters .entry)) (now (wrap .entry)) r (now (state .exit)) (now (wrap .exit)) ⌝ }
 {
     let taken = take(state);
     let answer = taken.answer;
@@ -34,9 +43,25 @@ pub extern "C" fn trestlecap_log_night(state: &mut [u8], night: u8, quarters: u8
     if refused != 0 {
         return refused;
     }
-    let outcome = log_night(taken.controller, night, quarters);
-    let told = outcome.answer;
-    keep(told.number(), outcome.controller, state)
+    made(text(taken.controller, line, characters), state, wrap)
+}
+
+#[no_mangle]
+pub extern "C" fn trestlecap_log_night(
+    state: &mut [u8],
+    night: u8,
+    quarters: u8,
+    wrap: &mut u8,
+) -> u8
+    ensures { λ r. ⌜ MakingCall (now (state .entry)) (Call.Log night quarters) [] (now (wrap .entry)) r (now (state .exit)) (now (wrap .exit)) ⌝ }
+{
+    let taken = take(state);
+    let answer = taken.answer;
+    let refused = answer.number();
+    if refused != 0 {
+        return refused;
+    }
+    made(log_night(taken.controller, night, quarters), state, wrap)
 }
 
 #[no_mangle]

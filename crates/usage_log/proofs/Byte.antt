@@ -1,10 +1,11 @@
--- A byte given to a part with no half waiting, on eight lines or four: it acts once, and no transfer of it is refused.
+-- A byte given to a part with no half waiting, on eight lines or four: it acts once, no transfer of it is refused, and one says whether it passes an end.
 use Prim.Native.Nat.{ℕ, _+_, _-_, _*_, _<_}
 use lib.Dec.{T, leb, le→leb}
-use mathlib.Core.Bool.{false}
+use mathlib.Core.Bool.{false, _||_, or-false}
 use mathlib.Core.List.{List, _++_}
-use mathlib.Core.Path.{_≡_, _∙_, ap, refl, sym, subst⁻¹}
+use mathlib.Core.Path.{_≡_, _∙_, ap, ap₂, refl, sym, subst⁻¹}
 use native.Mathlib.Omega.{arith}
+use Rattle.bedside.specs.Panel.{anyWrap}
 use Rattle.bus.proofs.Busy.{idle-free, waited-told}
 use Rattle.bus.proofs.Free.{transfer-steps}
 use Rattle.bus.specs.Events.{toldBy, afterEvents, saidBy}
@@ -47,14 +48,15 @@ module _ (c : Controller) (t : T (inRange (c .registers))) (k : Kind) (n : ℕ) 
   wait-answered = subst⁻¹ (λ (x : Told). T (notRefused (x .said))) (waited-told c longest t) tt
 
   -- what the transfer is told once the busy time is waited out
-  transfer-leads : (told : Told) → transferOf (halfBusy c (c .registers .half) 0) k n ≡ told → T (notRefused (told .said)) → Leads (transferEvents k n) c (told .controller)
-  unfolding afterEvents saidBy toldBy NoneRefused Along
+  transfer-leads : (told : Told) → transferOf (halfBusy c (c .registers .half) 0) k n ≡ told → T (notRefused (told .said)) → Leads (transferEvents k n) c (told .controller) (told .said .wrap)
+  unfolding afterEvents saidBy toldBy NoneRefused anyWrap Along
   transfer-leads told e u =
       let same : transferOf (waitOf c longest .controller) k n ≡ told = ap (λ (x : Controller). transferOf x k n) idle-after ∙ e in
       record {
         comes = record {
           leaves = ap (λ (x : Told). x .controller) same;
           none-refused = (wait-answered, (subst⁻¹ (λ (x : Told). T (notRefused (x .said))) same u, tt));
+          wraps = ap₂ (λ (waited done : Told). waited .said .wrap || (done .said .wrap || false)) (waited-told c longest t) same ∙ or-false (told .said .wrap);
         };
         along = λ P a b. (a, (subst⁻¹ (λ (x : Controller). P (x .display)) idle-after a, subst⁻¹ (λ (x : Told). P (x .controller .display)) same b));
       }
@@ -86,7 +88,7 @@ module _ (c : Controller) (t : T (inRange (c .registers))) (no-half : c .registe
     (u : T (notRefused (acted (halfBusy c Half.Nothing 0) k n .said))) where
   -- what the byte comes to
   abbrev pub Done : List Event → Type 1
-  Done events = Leads events c (acted (halfBusy c Half.Nothing 0) k n .controller)
+  Done events = Leads events c (acted (halfBusy c Half.Nothing 0) k n .controller) (acted (halfBusy c Half.Nothing 0) k n .said .wrap)
 
   idle : (m : ℕ) → transferOf (halfBusy c (c .registers .half) 0) k m ≡ transferOf (halfBusy c Half.Nothing 0) k m
   idle m = ap (λ (h : Half). transferOf (halfBusy c h 0) k m) no-half

@@ -4,7 +4,7 @@ use borrow.Author.Tests.{eq-eqb}
 use lib.Dec.{T, T-not, not-T, ltb, leb, eqb, eqb→eq, leb→le, le→leb, ltb→lt, lt→ltb, lit≤}
 use lib.ListN.{length, set, getD}
 use lib.Seq.{getD-set-other}
-use mathlib.Core.Bool.{Bool, cond, not}
+use mathlib.Core.Bool.{Bool, false, cond, not}
 use mathlib.Core.List.{List, [], _∷_}
 use mathlib.Core.Logic.{_⊎_, _≢_, inl, inr, ⊎-elim}
 use mathlib.Core.Path.{_≡_, _∙_, ap, refl, sym, subst⁻¹}
@@ -37,8 +37,13 @@ use Rattle.usage_log.proofs.Given.{Ready, ready-facts, standing}
 
 -- ---- where it ends
 
+-- the writes of night 23 pass an end, and no others
+abbrev pub lastOfLines : Call → Bool
+lastOfLines (Text line) = false
+lastOfLines (Log night quarters) = eqb night 23
+
 call-comes : (c : Controller) (call : Call) (characters : List ℕ) → AllSmall characters → Ready (c .registers) → InRange (c .registers) → firstOf (ownRules c call (length characters)) 0 ≡ 0
-    → Comes (callEvents (c .registers .bus) call characters) c (standing c (Display (display 0x00)) (cellsAfter call characters (c .display)) 10)
+    → Comes (callEvents (c .registers .bus) call characters) c (standing c (Display (display 0x00)) (cellsAfter call characters (c .display)) 10) (lastOfLines call)
 unfolding callEvents cellsAfter
 call-comes c (Text line) characters small ready ranged own = text-comes c ready ranged line characters (sixteen-taken line (length characters) own) small
 call-comes c (Log night quarters) characters small ready ranged own =
@@ -46,18 +51,26 @@ call-comes c (Log night quarters) characters small ready ranged own =
     let few : quarters ≤ mostQuarters = taken .in-day in
     log-comes c ready ranged night quarters (taken .in-course) (omega arith)
 
+module _ (c : Controller) (call : Call) (characters : List ℕ) (e : callAnswer c call (length characters) ≡ 0) where
+  taken-ready : Ready (c .registers)
+  taken-ready = ready-facts (c .registers) (call-taken c call (length characters) e .ready)
+
+  pub taken-comes : AllSmall characters
+      → Comes (callEvents (c .registers .bus) call characters) c (standing c (Display (display 0x00)) (cellsAfter call characters (c .display)) 10) (lastOfLines call)
+  taken-comes small =
+      let taken = call-taken c call (length characters) e in
+      call-comes c call characters small taken-ready (facts (c .registers) (holds _ (taken .in-range))) (taken .own)
+
 pub call-ends : CallEnds
 unfolding callLeaves endOf
 call-ends c call characters small e =
-    let taken = call-taken c call (length characters) e in
-    let ready : Ready (c .registers) = ready-facts (c .registers) (taken .ready) in
-    let comes = call-comes c call characters small ready (facts (c .registers) (holds _ (taken .in-range))) (taken .own) in
+    let comes = taken-comes c call characters e small in
     record {
       none-refused = comes .none-refused;
       end =
           ap (λ (b : Bool). cond b (afterEvents (callEvents (c .registers .bus) call characters) c) c) (eq-eqb _ _ e)
           ∙ comes .leaves
-          ∙ ap (λ (h : Half). with (cellsAfter call characters (c .display)) (c .character) (awaiting (placed (c .registers) (Display (display 0x00)) (c .registers .shift)) h 10)) (sym (ready .no-half));
+          ∙ ap (λ (h : Half). with (cellsAfter call characters (c .display)) (c .character) (awaiting (placed (c .registers) (Display (display 0x00)) (c .registers .shift)) h 10)) (sym (taken-ready c call characters e .no-half));
     }
 
 -- a fact of the controller as it was, and of where the call ends, is one of what the call leaves

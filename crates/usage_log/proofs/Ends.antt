@@ -1,23 +1,25 @@
--- Where a text and a night logged end.
+-- Where a text and a night logged end, and whether a write of theirs passes an end.
 use Prim.Native.Nat.{ℕ, suc, _+_, _≤_, _<_}
+use borrow.Author.Tests.{eq-eqb}
 use lib.Dec.{T, ltb, leb, eqb, ltb→lt, eqb→eq, lit≤}
 use lib.ListN.{length, set}
-use mathlib.Core.Bool.{Bool, true, _&&_, _||_}
+use mathlib.Core.Bool.{Bool, true, false, not, _&&_, _||_, or-false, or-self-left, Bool·beq}
 use mathlib.Core.List.{List, [], _∷_, _++_}
 use mathlib.Core.Logic.{⊎-elim}
-use mathlib.Core.Path.{_≡_, ap, refl, subst, subst⁻¹}
+use mathlib.Core.Path.{_≡_, _∙_, ap, ap₂, refl, subst, subst⁻¹}
 use native.Mathlib.Omega.{arith}
 use Rattle.bedside.proofs.Nights.{figure-exists, mark-exists}
+use Rattle.bedside.specs.Panel.{anyWrap}
 use Rattle.bus.specs.Events.{afterEvents, saidBy}
 use Rattle.calls.specs.Events.{addressEvents, dataEvents, homeAddress, lineAddress, textEvents, cellEvents, logEvents}
 use Rattle.calls.specs.Nights.{lastNight, figureAddress, markAddress, mark}
-use Rattle.condition.proofs.Tests.{split, and-left, and-right, or-cases, _⇒_, implies, each}
+use Rattle.condition.proofs.Tests.{split, and-left, and-right, or-cases, _⇒_, implies, every, each, same}
 use Rattle.controller.proofs.Ranged.{InRange}
 use Rattle.controller.specs.Part.{longest}
 use Rattle.controller.specs.declared.Controller.{Controller}
-use Rattle.counters.proofs.Laws.{step-exists}
-use Rattle.counters.specs.Address.{display, hasDisplay, cellOf, stepDisplay}
-use Rattle.counters.specs.Counter.{hasCounter, stepOf}
+use Rattle.counters.proofs.Laws.{step-exists, passes-exactly}
+use Rattle.counters.specs.Address.{display, hasDisplay, cellOf, stepDisplay, endsDisplay, passesDisplay}
+use Rattle.counters.specs.Counter.{hasCounter, stepOf, passesOf, numberOn}
 use Rattle.counters.specs.Wrap.{next}
 use Rattle.counters.specs.declared.LineMode.the-variants.{Two}
 use Rattle.counters.specs.declared.address.DisplayAddress.{DisplayAddress}
@@ -78,24 +80,25 @@ module _ (c : Controller) (ready : Ready (c .registers)) (ranged : InRange (c .r
 
   row-comes : (characters : List ℕ) (a : ℕ) (d : List ℕ) → Row a (length characters) → AllSmall characters
       → Comes (dataEvents bus characters) (standing c (Display (display a)) d 10)
-      (standing c (Display (display (a + length characters))) (storedFrom (cellOf Two (display a) .0) characters d) 10)
-  unfolding dataEvents storedFrom afterEvents saidBy NoneRefused
+      (standing c (Display (display (a + length characters))) (storedFrom (cellOf Two (display a) .0) characters d) 10) false
+  unfolding dataEvents storedFrom afterEvents saidBy NoneRefused anyWrap hasCounter stepOf passesOf numberOn
   row-comes [] a d row small =
       let same : a ≡ a + 0 = omega arith in
-      record { leaves = ap (λ (n : ℕ). standing c (Display (display n)) d 10) same; none-refused = tt }
+      record { leaves = ap (λ (n : ℕ). standing c (Display (display n)) d 10) same; none-refused = tt; wraps = refl }
   row-comes (n ∷ ns) a d row small =
       let t = row-test a (row-first a (length ns) row) in
       let rest = and-right (exists-test a) (step-test a && cell-test a) t in
       let steps : stepDisplay Two true (display a) .0 ≡ a + 1 = eqb→eq _ _ (and-left (step-test a) (cell-test a) rest) in
       let cells : cellOf Two (display (a + 1)) .0 ≡ cellOf Two (display a) .0 + 1 = eqb→eq _ _ (and-right (step-test a) (cell-test a) rest) in
-      let first = data-leads c ready ranged (display a) n d 10 (and-left (exists-test a) (step-test a && cell-test a) t) (small 0) (lit≤ tt) .comes in
+      let there = and-left (exists-test a) (step-test a && cell-test a) t in
+      let inside : passesDisplay Two true (display a) ≡ false = passes-exactly true Two (Display (display a)) there ∙ ap not (eq-eqb _ _ steps) in
+      let first = data-leads c ready ranged (display a) n d 10 there (small 0) (lit≤ tt) .comes in
       let d′ : List ℕ = set d (cellOf Two (display a) .0) n in
       let others = row-comes ns (a + 1) d′ (row-next a (length ns) row) (λ i. small (suc i)) in
       let end : a + 1 + length ns ≡ a + suc (length ns) = omega arith in
-      comes-then first
-      (rw (steps, ← cells, ← end) others)
+      comes-then (rw inside at first) (rw (steps, ← cells, ← end) others)
 
-  home-leads : (k : Counter) (d : List ℕ) → T (hasCounter (c .registers .mode .lines) k) → Leads (addressEvents bus homeAddress) (standing c k d 10) (standing c (Display homeAddress) d 10)
+  home-leads : (k : Counter) (d : List ℕ) → T (hasCounter (c .registers .mode .lines) k) → Leads (addressEvents bus homeAddress) (standing c k d 10) (standing c (Display homeAddress) d 10) false
   unfolding hasDisplay
   home-leads k d u = address-leads c ready ranged homeAddress k d 10 tt u (lit≤ tt)
 
@@ -109,14 +112,14 @@ module _ (c : Controller) (ready : Ready (c .registers)) (ranged : InRange (c .r
       (λ t. (tt, each (λ (i : ℕ). inRow (0x40 + i)) 16 tt, tt))
 
   pub text-comes : (line : ℕ) (characters : List ℕ) → length characters ≡ 16 → AllSmall characters
-      → Comes (textEvents bus line characters) c (standing c (Display homeAddress) (storedFrom (cellOf Two (lineAddress line) .0) characters (c .display)) 10)
+      → Comes (textEvents bus line characters) c (standing c (Display homeAddress) (storedFrom (cellOf Two (lineAddress line) .0) characters (c .display)) 10) false
   unfolding textEvents hasCounter
   text-comes line characters e small =
       let starts = line-starts line in
       let d : List ℕ = storedFrom (cellOf Two (lineAddress line) .0) characters (c .display) in
       let row : Row (lineAddress line .0) (length characters) = subst⁻¹ (Row (lineAddress line .0)) e (starts .1) in
       let behind : T (hasDisplay Two (display (lineAddress line .0 + length characters))) = subst⁻¹ (λ (n : ℕ). T (hasDisplay Two (display (lineAddress line .0 + n)))) e (starts .2) in
-      subst (λ (x : Controller). Comes (textEvents bus line characters) x (standing c (Display homeAddress) d 10)) (standing-first c ready ranged)
+      subst (λ (x : Controller). Comes (textEvents bus line characters) x (standing c (Display homeAddress) d 10) false) (standing-first c ready ranged)
       (comes-then (address-leads c ready ranged (lineAddress line) (c .registers .counter) (c .display) (c .registers .busy) (starts .0) (ranged .counter) (ranged .busy) .comes)
       (comes-then (row-comes characters (lineAddress line .0) (c .display) row small)
       (home-leads (Display (display (lineAddress line .0 + length characters))) d (exists c ready ranged _ behind) .comes)))
@@ -124,7 +127,7 @@ module _ (c : Controller) (ready : Ready (c .registers)) (ranged : InRange (c .r
   -- ---- a night logged
 
   cell-leads : (a : DisplayAddress) (n : ℕ) (k : Counter) (d : List ℕ) (t : ℕ) → T (hasDisplay Two a) → n < 256 → T (hasCounter (c .registers .mode .lines) k) → t ≤ longest
-      → Leads (cellEvents bus a n) (standing c k d t) (standing c (Display (stepDisplay Two true a)) (set d (cellOf Two a .0) n) 10)
+      → Leads (cellEvents bus a n) (standing c k d t) (standing c (Display (stepDisplay Two true a)) (set d (cellOf Two a .0) n) 10) (passesDisplay Two true a)
   cell-leads a n k d t u small v h =
       leads-then (address-leads c ready ranged a k d t u v h) (data-leads c ready ranged a n d 10 u small (lit≤ tt)) refl
 
@@ -139,24 +142,31 @@ module _ (c : Controller) (ready : Ready (c .registers)) (ranged : InRange (c .r
     abbrev marked : List ℕ
     marked = set figured (cellOf Two (markAddress night) .0) mark
 
-    figure-leads : Leads (cellEvents bus (figureAddress night) quarters) c (standing c (Display (stepDisplay Two true (figureAddress night))) figured 10)
+    figure-leads : Leads (cellEvents bus (figureAddress night) quarters) c (standing c (Display (stepDisplay Two true (figureAddress night))) figured 10) (passesDisplay Two true (figureAddress night))
     figure-leads =
-        subst (λ (x : Controller). Leads (cellEvents bus (figureAddress night) quarters) x (standing c (Display (stepDisplay Two true (figureAddress night))) figured 10))
+        subst (λ (x : Controller). Leads (cellEvents bus (figureAddress night) quarters) x (standing c (Display (stepDisplay Two true (figureAddress night))) figured 10) (passesDisplay Two true (figureAddress night)))
         (standing-first c ready ranged)
         (cell-leads (figureAddress night) quarters (c .registers .counter) (c .display) (c .registers .busy) (figure-exists night in-course) small (ranged .counter) (ranged .busy))
 
     mark-leads : Leads (cellEvents bus (markAddress night) mark) (standing c (Display (stepDisplay Two true (figureAddress night))) figured 10)
-        (standing c (Display (stepDisplay Two true (markAddress night))) marked 10)
+        (standing c (Display (stepDisplay Two true (markAddress night))) marked 10) (passesDisplay Two true (markAddress night))
     mark-leads =
         cell-leads (markAddress night) mark (Display (stepDisplay Two true (figureAddress night))) figured 10 (mark-exists night in-course) (lit≤ tt)
         (step-there (figureAddress night) (figure-exists night in-course)) (lit≤ tt)
 
-    ends-leads : Leads (addressEvents bus homeAddress) (standing c (Display (stepDisplay Two true (markAddress night))) marked 10) (standing c (Display homeAddress) marked 10)
+    ends-leads : Leads (addressEvents bus homeAddress) (standing c (Display (stepDisplay Two true (markAddress night))) marked 10) (standing c (Display homeAddress) marked 10) false
     ends-leads = home-leads (Display (stepDisplay Two true (markAddress night))) marked (step-there (markAddress night) (mark-exists night in-course))
 
-    pub log-comes : Comes (logEvents bus night quarters) c (standing c (Display homeAddress) marked 10)
-    unfolding logEvents
-    log-comes = comes-then (figure-leads .comes) (comes-then (mark-leads .comes) (ends-leads .comes))
+    -- a write to the last cell of a line passes an end: of the nights' cells those of night 23 are the last
+    last-passes : (address : ℕ → DisplayAddress) → T (every (λ (k : ℕ). Bool·beq (passesDisplay Two true (address k)) (eqb k 23)) 24) → passesDisplay Two true (address night) ≡ eqb night 23
+    last-passes address t = same _ _ (each (λ (k : ℕ). Bool·beq (passesDisplay Two true (address k)) (eqb k 23)) 24 t night (omega arith))
+
+    pub log-comes : Comes (logEvents bus night quarters) c (standing c (Display homeAddress) marked 10) (eqb night 23)
+    unfolding logEvents passesDisplay endsDisplay stepDisplay next
+    log-comes =
+        subst (Comes (logEvents bus night quarters) c (standing c (Display homeAddress) marked 10))
+        (ap₂ (λ (a b : Bool). a || (b || false)) (last-passes figureAddress tt) (last-passes markAddress tt) ∙ or-self-left (eqb night 23) false ∙ or-false (eqb night 23))
+        (comes-then (figure-leads .comes) (comes-then (mark-leads .comes) (ends-leads .comes)))
 
     -- the figure before the mark: of display memory there are three states, one behind the other
     pub log-along : (P : List ℕ → Type 0) → P (c .display) → P figured → P marked → Along P (logEvents bus night quarters) c

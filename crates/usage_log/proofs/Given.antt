@@ -1,4 +1,4 @@
--- An address set and a byte written, given to a part that is ready: where each leads.
+-- An address set and a byte written, given to a part that is ready: where each leads, and whether it passes an end.
 use Prim.Native.Nat.{ℕ, _+_, _%_, _≤_, _<_}
 use lib.Dec.{T, eqb}
 use lib.ListN.{set}
@@ -10,7 +10,7 @@ use Rattle.bedside.specs.Refusals.{isTwo, noHalf, isReady}
 use Rattle.calls.specs.Events.{byteEvents, addressEvents}
 use Rattle.condition.proofs.Tests.{is-true, and-left, and-right}
 use Rattle.controller.proofs.Ranged.{InRange, test, unhalved}
-use Rattle.controller.specs.Answers.{saying}
+use Rattle.controller.specs.Answers.{saying, wrapping}
 use Rattle.controller.specs.Memory.{Change, storeAt, displayAfter, characterAfter}
 use Rattle.controller.specs.Part.{placed, awaiting, with, longest, inRange}
 use Rattle.controller.specs.Result.{done, forgotten}
@@ -18,8 +18,8 @@ use Rattle.controller.specs.Told.{Told, carried}
 use Rattle.controller.specs.declared.Controller.{Controller}
 use Rattle.controller.specs.declared.registers.Registers.{Registers}
 use Rattle.counters.proofs.Laws.{number-below}
-use Rattle.counters.specs.Address.{display, hasDisplay, cellOf, stepDisplay}
-use Rattle.counters.specs.Counter.{hasCounter, stepOf, numberOn}
+use Rattle.counters.specs.Address.{display, hasDisplay, cellOf, stepDisplay, passesDisplay}
+use Rattle.counters.specs.Counter.{hasCounter, stepOf, passesOf, numberOn}
 use Rattle.counters.specs.declared.LineMode.{LineMode}
 use Rattle.counters.specs.declared.LineMode.the-variants.{One, Two}
 use Rattle.counters.specs.declared.address.DisplayAddress.{DisplayAddress}
@@ -75,16 +75,16 @@ ready-facts r t =
 -- ---- what an address and a byte come to
 
 address-acts : (r : Registers) (a : DisplayAddress) (v : ℕ) → T (hasDisplay (r .mode .lines) a) → a .0 < 0x80
-    → act InstructionWrite r (0x80 + a .0) v ≡ done 0 10 (placed r (Display a) (r .shift)) Change.Nothing
+    → act InstructionWrite r (0x80 + a .0) v ≡ done false 0 10 (placed r (Display a) (r .shift)) Change.Nothing
 unfolding act obey rowOf
 address-acts r a v t h =
     let low : (0x80 + a .0) % 0x80 ≡ a .0 = omega arith in
     let named : decode (0x80 + a .0) ≡ SetDisplay a = decoded-by-range (0x80 + a .0) .display (omega arith) ∙ ap (λ (n : ℕ). SetDisplay (display n)) low in
-    ap (λ (i : Instruction). obey i r) named ∙ ap (λ (b : Bool). cond (not b) (forgotten 3 r) (done 0 10 (placed r (Display a) (r .shift)) Change.Nothing)) (is-true (hasDisplay (r .mode .lines) a) t)
+    ap (λ (i : Instruction). obey i r) named ∙ ap (λ (b : Bool). cond (not b) (forgotten 3 r) (done false 0 10 (placed r (Display a) (r .shift)) Change.Nothing)) (is-true (hasDisplay (r .mode .lines) a) t)
 
 data-acts : (r : Registers) (a : DisplayAddress) (n v : ℕ) → r .mode .lines ≡ Two → r .entry .up ≡ true → r .entry .shifts ≡ false → r .counter ≡ Display a
-    → act DataWrite r n v ≡ done 0 10 (placed r (Display (stepDisplay Two true a)) (r .shift)) (Change.OneCell (cellOf Two a) n)
-unfolding act writeData shiftAfter storeAt stepOf
+    → act DataWrite r n v ≡ done (passesDisplay Two true a) 0 10 (placed r (Display (stepDisplay Two true a)) (r .shift)) (Change.OneCell (cellOf Two a) n)
+unfolding act writeData shiftAfter storeAt stepOf passesOf
 data-acts r a n v two up still at = rw (at, two, up, still) refl
 
 -- ---- the part, wherever its counter stands and whatever its display cells hold
@@ -102,27 +102,27 @@ module _ (c : Controller) (ready : Ready (c .registers)) (ranged : InRange (c .r
       test (standing c k d t .registers) (unhalved (placed (c .registers) k (c .registers .shift)) t (record { counter = u; shift = ranged .shift }) h)
 
   -- a byte that is done, whatever it does
-  done-leads : (k : Kind) → isRead k ≡ false → (n : ℕ) → n < 256 → (at : Counter) (d : List ℕ) (t : ℕ) → T (hasCounter (c .registers .mode .lines) at) → t ≤ longest → (after : Controller)
-      → acted (standing c at d 0) k n ≡ record { said = saying 0 0; controller = after } → Leads (byteEvents (c .registers .bus) k n) (standing c at d t) after
-  done-leads k write n small at d t u h after told =
-      subst (λ (x : Told). Leads (byteEvents (c .registers .bus) k n) (standing c at d t) (x .controller)) told
+  done-leads : (k : Kind) → isRead k ≡ false → (n : ℕ) → n < 256 → (at : Counter) (d : List ℕ) (t : ℕ) → T (hasCounter (c .registers .mode .lines) at) → t ≤ longest → (after : Controller) (wrap : Bool)
+      → acted (standing c at d 0) k n ≡ record { said = wrapping wrap (saying 0 0); controller = after } → Leads (byteEvents (c .registers .bus) k n) (standing c at d t) after wrap
+  done-leads k write n small at d t u h after wrap told =
+      subst (λ (x : Told). Leads (byteEvents (c .registers .bus) k n) (standing c at d t) (x .controller) (x .said .wrap)) told
       (byte-leads (standing c at d t) (standing-in-range at d t u h) refl k write n small (subst⁻¹ (λ (x : Told). T (notRefused (x .said))) told tt))
 
   -- a display address is set
   pub address-leads : (a : DisplayAddress) (k : Counter) (d : List ℕ) (t : ℕ) → T (hasDisplay Two a) → T (hasCounter (c .registers .mode .lines) k) → t ≤ longest
-      → Leads (addressEvents (c .registers .bus) a) (standing c k d t) (standing c (Display a) d 10)
+      → Leads (addressEvents (c .registers .bus) a) (standing c k d t) (standing c (Display a) d 10) false
   unfolding displayAfter characterAfter hasCounter numberOn
   address-leads a k d t u v h =
       let below : a .0 < 0x80 = number-below Two (Display a) u in
-      done-leads InstructionWrite refl (0x80 + a .0) (omega arith) k d t v h (standing c (Display a) d 10)
+      done-leads InstructionWrite refl (0x80 + a .0) (omega arith) k d t v h (standing c (Display a) d 10) false
       (ap (carried (standing c k d 0)) (address-acts (standing c k d 0 .registers) a _ (exists a u) below))
 
   -- a byte is written to the addressed cell, and the counter steps up
   pub data-leads : (a : DisplayAddress) (n : ℕ) (d : List ℕ) (t : ℕ) → T (hasDisplay Two a) → n < 256 → t ≤ longest
-      → Leads (byteEvents (c .registers .bus) DataWrite n) (standing c (Display a) d t) (standing c (Display (stepDisplay Two true a)) (set d (cellOf Two a .0) n) 10)
+      → Leads (byteEvents (c .registers .bus) DataWrite n) (standing c (Display a) d t) (standing c (Display (stepDisplay Two true a)) (set d (cellOf Two a .0) n) 10) (passesDisplay Two true a)
   unfolding displayAfter characterAfter hasCounter
   data-leads a n d t u small h =
-      done-leads DataWrite refl n small (Display a) d t (exists a u) h (standing c (Display (stepDisplay Two true a)) (set d (cellOf Two a .0) n) 10)
+      done-leads DataWrite refl n small (Display a) d t (exists a u) h (standing c (Display (stepDisplay Two true a)) (set d (cellOf Two a .0) n) 10) (passesDisplay Two true a)
       (ap (carried (standing c (Display a) d 0)) (data-acts (standing c (Display a) d 0 .registers) a n _ (ready .two) (ready .up) (ready .still) refl))
 
   -- where the call begins

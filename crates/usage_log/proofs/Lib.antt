@@ -6,6 +6,7 @@ pub mod Exactly
 pub mod Looked
 pub mod Called
 pub mod Kept
+pub mod Wraps
 pub mod Cut
 pub mod Restarted
 pub mod Settled

@@ -40,6 +40,7 @@ call-settled c call characters o o′ p q =
     (λ i. record {
       controller = settled (p .controller) (q .controller) i;
       answer = answer-settled c call (length characters) (o .answer) (o′ .answer) (p .number) (q .number) i;
+      wrap = settled (p .wrap) (q .wrap) i;
     })
 
 -- the number first, then the figure

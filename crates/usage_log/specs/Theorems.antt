@@ -1,14 +1,14 @@
 -- What is proved of the bedside panel and its usage log, for the person who ordered it; Words.antt has the words.
 use Prim.Native.Nat.{ℕ}
-use lib.Dec.{T}
+use lib.Dec.{T, eqb}
 use lib.ListN.{length, getD, take}
-use mathlib.Core.Bool.{not}
+use mathlib.Core.Bool.{false, not, _&&_}
 use mathlib.Core.List.{List, []}
 use mathlib.Core.Logic.{_⊎_, _≢_}
 use mathlib.Core.Path.{_≡_}
 use Rattle.bedside.specs.Answers.{numberOf}
 use Rattle.bedside.specs.Log.{figureCell, markCell, lookUpRules, lookUpAnswer, LookingUp}
-use Rattle.bedside.specs.Panel.{callLeaves, Calling}
+use Rattle.bedside.specs.Panel.{callLeaves, callWraps, Calling}
 use Rattle.bedside.specs.Refusals.{callRules, callAnswer}
 use Rattle.bedside.specs.declared.Outcome.{Outcome}
 use Rattle.bedside.specs.declared.answer.Answer.{Answer}
@@ -94,6 +94,16 @@ pub record Ends (c : Controller) (call : Call) (characters : List ℕ) : Type 0 
 
 abbrev pub CallEnds : Type 0
 CallEnds = (c : Controller) (call : Call) (characters : List ℕ) → AllSmall characters → callAnswer c call (length characters) ≡ 0 → Ends c call characters
+
+-- ---- past an end (request 8/12)
+
+-- a text never says yes
+abbrev pub TextNeverWraps : Type 0
+TextNeverWraps = (c : Controller) (line : ℕ) (characters : List ℕ) → AllSmall characters → callWraps c (Text line) characters ≡ false
+
+-- logging says yes exactly for night 23, where it is done: the cells of that night stand at 27 and 67 hex, the ends of both lines, and no text runs off there
+abbrev pub LoggingWrapsExactly : Type 0
+LoggingWrapsExactly = (c : Controller) (night quarters : ℕ) → callWraps c (Log night quarters) [] ≡ (eqb (callAnswer c (Log night quarters) 0) 0 && eqb night 23)
 
 -- ---- a log call cut after any of its transfers, or of its waits
 

@@ -5,7 +5,7 @@ use mathlib.Core.Bool.{Bool, true, false, cond, not}
 use mathlib.Core.Path.{_≡_, _∙_, ap, refl}
 use Rattle.condition.proofs.Tests.{each, implies, _⇒_}
 use Rattle.controller.specs.Memory.{storeAt}
-use Rattle.controller.specs.Part.{placed, counterStepped}
+use Rattle.controller.specs.Part.{placed, counterStepped, passesEnd}
 use Rattle.controller.specs.Result.{Result, done}
 use Rattle.controller.specs.Told.{addressed, carried}
 use Rattle.controller.specs.declared.Controller.{Controller}
@@ -18,7 +18,7 @@ use Rattle.event.specs.declared.Kind.the-variants.{InstructionWrite, DataWrite,
 use Rattle.halves.specs.Halves.{answered}
 use Rattle.halves.specs.declared.Half.{Half}
 use Rattle.halves.specs.declared.LineCount.{LineCount}
-use Rattle.instructions.specs.Instructions.{bit, decode, moved, obey}
+use Rattle.instructions.specs.Instructions.{bit, decode, moved, movesPast, obey}
 use Rattle.instructions.specs.declared.instruction.Instruction.{Instruction}
 use Rattle.instructions.specs.declared.instruction.Instruction.the-variants.{Nothing, Clear, Home, EntryMode, OnOff, Move, FunctionSet, SetCharacter, SetDisplay}
 use Rattle.step.proofs.Joined.{shift-rewired, read-rewired}
@@ -55,7 +55,7 @@ choice-rewired b false x y = refl
 
 module _ (b : LineCount) (r : Registers) where
   obey-rewired : (i : Instruction) → T (not (setsLines i)) → obey i (onLines b r) ≡ resultOn b (obey i r)
-  unfolding obey moved
+  unfolding obey moved movesPast
   obey-rewired Nothing t = refl
   obey-rewired Clear t = refl
   obey-rewired Home t = refl
@@ -72,7 +72,7 @@ module _ (b : LineCount) (r : Registers) where
   unfolding act writeData readStatus readData
   act-rewired InstructionWrite n v h t = obey-rewired (decode n) (others-keep-lines n (h tt) t)
   act-rewired DataWrite n v h t =
-      ap (λ (s : Shift). done 0 10 (placed (onLines b r) (counterStepped (r .entry .up) r) s) (storeAt (r .mode .lines) (r .counter) n))
+      ap (λ (s : Shift). done (passesEnd (r .entry .up) r) 0 10 (placed (onLines b r) (counterStepped (r .entry .up) r) s) (storeAt (r .mode .lines) (r .counter) n))
       (shift-rewired r b Half.Nothing (r .counter))
   act-rewired StatusRead n v h t = refl
   act-rewired DataRead n v h t = refl

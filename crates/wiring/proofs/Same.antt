@@ -37,10 +37,10 @@ values-agree : (k : Kind) (r : Registers) (n b : ℕ)
     → Agree (act k r n (readOf k r b) .said) (saying 20 (upper (readOf k r b) * 16)) (act k r n (lower (readOf k r b) * 16) .said)
 unfolding act obey writeData readStatus readData readOf
 values-agree InstructionWrite r n b =
-    split (λ (s : Result). Agree (s .said) (saying 20 0) (s .said)) (rowOf (decode n) r .lacks) (λ t. Agree.NoSuchAddress) (λ t. Agree.Done 0)
-values-agree DataWrite r n b = Agree.Done 0
-values-agree StatusRead r n b = Agree.Done (readOf StatusRead r b)
-values-agree DataRead r n b = Agree.Done b
+    split (λ (s : Result). Agree (s .said) (saying 20 0) (s .said)) (rowOf (decode n) r .lacks) (λ t. Agree.NoSuchAddress) (λ t. Agree.Done 0 (rowOf (decode n) r .wrap))
+values-agree DataWrite r n b = Agree.Done 0 _
+values-agree StatusRead r n b = Agree.Done (readOf StatusRead r b) _
+values-agree DataRead r n b = Agree.Done b _
 
 -- the value that is read does not matter to what is left
 value-leaves-the-same : (c : Controller) (k : Kind) (n v w : ℕ) → carried c (act k (c .registers) n v) .controller ≡ carried c (act k (c .registers) n w) .controller

@@ -1,5 +1,5 @@
 -- Four lines and eight lines tell the same story: two parts equal but for the line count, given the same transfers, on four lines
--- each as two like halves, and the same waits, are answered alike and are again equal but for the line count after each.
+-- each as two like halves, and the same waits, are answered alike, the wrap included, and are again equal but for the line count after each.
 use Prim.Native.Nat.{ℕ}
 use lib.Dec.{T}
 use mathlib.Core.Bool.{not}

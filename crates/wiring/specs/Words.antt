@@ -5,7 +5,7 @@ use mathlib.Core.Bool.{Bool, false, _&&_, not}
 use mathlib.Core.Logic.{_↔_, _≢_}
 use mathlib.Core.Path.{_≡_}
 use Rattle.bus.specs.Transfer.{transferOf}
-use Rattle.controller.specs.Answers.{Said, saying, refused}
+use Rattle.controller.specs.Answers.{Said, saying, wrapping, refused}
 use Rattle.controller.specs.Part.{arranged, awaiting, with}
 use Rattle.controller.specs.Told.{Told}
 use Rattle.controller.specs.declared.Controller.{Controller}
@@ -56,18 +56,19 @@ LikeHalves k n first second = T (not (isRead k)) → HalvesOf n first second
 abbrev pub secondOf : Controller → Kind → (first second : ℕ) → Told
 secondOf c k first second = transferOf (transferOf c k first .controller) k second
 
--- ---- refusals agree, bytes read agree once the halves are joined
+-- ---- refusals agree, bytes read agree once the halves are joined; the second half says what the one transfer says of the wrap, the first half no (request 8/12)
 -- what eight lines are answered, and beside it the two halves on four: these are all cases
 pub data Agree : (eight first second : Said) → Type 0 where
-  -- 0 with the value v: 20 with v's upper half, then 0 with v's lower half, each in the upper four bits
-  Done : (v : ℕ) → Agree (saying 0 v) (saying 20 (upper v * 16)) (saying 0 (lower v * 16))
+  -- 0 with the value v, saying w of the wrap: 20 with v's upper half and no, then 0 with v's lower half and w, each half in the upper four bits
+  Done : (v : ℕ) (w : Bool) → Agree (wrapping w (saying 0 v)) (saying 20 (upper v * 16)) (wrapping w (saying 0 (lower v * 16)))
   Busy : Agree (refused 1) (refused 1) (refused 1)
   NoSuchAddress : Agree (refused 3) (saying 20 0) (refused 3)
   NotInRange : Agree (refused 16) (refused 16) (refused 16)
 
 -- each of them exactly when; a value read is a byte, and is had back from its halves
 pub record AgreeExactly (eight first second : Said) : Type 0 where
-  pub done : (v : ℕ) → v < 256 → eight .value < 256 → (eight ≡ saying 0 v) ↔ ((first ≡ saying 20 (upper v * 16)) × (second ≡ saying 0 (lower v * 16)))
+  pub done : (v : ℕ) (w : Bool) → v < 256 → eight .value < 256
+      → (eight ≡ wrapping w (saying 0 v)) ↔ ((first ≡ saying 20 (upper v * 16)) × (second ≡ wrapping w (saying 0 (lower v * 16))))
   pub joined : eight .value < 256 → first .value + second .value / 16 ≡ eight .value
   pub busy : (eight .number ≡ 1) ↔ ((first .number ≡ 1) × (second .number ≡ 1))
   pub no-such-address : (eight .number ≡ 3) ↔ ((first .number ≡ 20) × (second .number ≡ 3))

@@ -46,11 +46,57 @@ const CLASSES: [Group; 11] = [
         "past the end, one line", "past the end, two lines"]),
 ];
 
-/// The ends of both memories and of the shift, passed in either direction, and shift on write.
+/// The ends of both memories, in either direction.
+const ENDS: [&str; 10] = [
+    "27 to 40",
+    "67 to 00",
+    "40 to 27",
+    "00 to 67",
+    "4F to 00",
+    "00 to 4F",
+    "3F to 00 of characters, one line",
+    "00 to 3F of characters, one line",
+    "3F to 00 of characters, two lines",
+    "00 to 3F of characters, two lines",
+];
+
+/// The ends that are passed by each kind of step.
+const PASSED_ON_EIGHT_LINES: [Group; 3] = [
+    ("ends passed by data writes on eight lines", &ENDS),
+    ("ends passed by data reads on eight lines", &ENDS),
+    ("ends passed by cursor moves on eight lines", &ENDS),
+];
+const PASSED_ON_FOUR_LINES: [Group; 3] = [
+    ("ends passed by data writes on four lines", &ENDS),
+    ("ends passed by data reads on four lines", &ENDS),
+    ("ends passed by cursor moves on four lines", &ENDS),
+];
+
+/// What passes no end, where a step in the set direction would.
 #[rustfmt::skip]
-const ENDS: [Group; 3] = [
-    ("steps with one line", &["4F to 00", "00 to 4F", "3F to 00 of characters", "00 to 3F of characters"]),
-    ("steps with two lines", &["27 to 40", "67 to 00", "00 to 67", "40 to 27", "3F to 00 of characters", "00 to 3F of characters"]),
+const NOT_PASSED: [Group; 1] = [
+    ("ends not passed", &["by a wait", "by a status read", "by a first half", "by a data write refused 1", "by a data read refused 1", "by an instruction refused 1",
+        "by a half refused 2", "by an address refused 3", "by clear", "by home", "by a display move", "by a change of N", "by N as it was", "by a character address", "by a display address", "by 80"]),
+];
+
+/// Steps beside which another memory or line mode has an end.
+const NO_ENDS: [Group; 1] = [(
+    "steps that pass no end",
+    &[
+        "27 to 28 with one line",
+        "28 to 27 with one line",
+        "3F to 40 with one line",
+        "40 to 3F with one line",
+        "4F to 50 with two lines",
+        "50 to 4F with two lines",
+        "27 to 28 of characters",
+        "28 to 27 of characters",
+    ],
+)];
+
+/// The ends of the shift, passed in either direction, and shift on write.
+#[rustfmt::skip]
+const SHIFTS: [Group; 1] = [
     ("shifts", &["79 to 0", "0 to 79", "39 to 0", "0 to 39", "on write, left", "on write, right", "not on a character write"]),
 ];
 
@@ -71,7 +117,15 @@ pub struct Coverage {
 
 impl Coverage {
     pub fn of_records() -> Coverage {
-        let mut order = [listed(&CLASSES), listed(&ENDS)].concat();
+        let mut order = [
+            listed(&CLASSES),
+            listed(&PASSED_ON_EIGHT_LINES),
+            listed(&PASSED_ON_FOUR_LINES),
+            listed(&NOT_PASSED),
+            listed(&NO_ENDS),
+            listed(&SHIFTS),
+        ]
+        .concat();
         order.extend(DAMAGES.map(|(name, _)| ("damages", name.to_string())));
         order.extend(WAITS.map(|wait| ("waits", wait.to_string())));
         order.extend(DIGITS.map(|digits| ("digits", digits.to_string())));
@@ -201,6 +255,9 @@ impl Coverage {
 
     fn note_event(&mut self, before: &Part, event: Event, outcome: Outcome, after: &Part) {
         let waits = before.half.is_some();
+        if at_an_end(before) {
+            self.note_not_passed(before, event, outcome, after);
+        }
         if event.kind == WAIT {
             self.met_if(WAITS.contains(&event.value), "waits", event.value);
             self.met_if(waits && event.value > 0, "halves", "waited through");
@@ -244,6 +301,7 @@ impl Coverage {
             _ => self.met(transfers, "data read"),
         }
         self.note_read(before, event);
+        self.note_no_end(before, event, after);
         self.note_ends(before, event, after);
     }
 
@@ -296,29 +354,58 @@ impl Coverage {
     }
 
     fn note_step(&mut self, before: &Part, event: Event, after: &Part) {
-        let byte = completed(before.half, event.value as u8);
-        let steps = match event.kind {
-            INSTRUCTION_WRITE => (0x10..=0x17).contains(&byte),
-            DATA_WRITE | DATA_READ => true,
-            _ => false,
-        };
-        let (group, borders): (_, &[(u8, u8)]) = match (before.memory, before.two_lines) {
-            (Memory::Display, false) => ("steps with one line", &[(0x4F, 0x00), (0x00, 0x4F)]),
-            (Memory::Display, true) => (
-                "steps with two lines",
-                &[(0x27, 0x40), (0x67, 0x00), (0x00, 0x67), (0x40, 0x27)],
-            ),
-            (Memory::Character, false) => ("steps with one line", &[(0x3F, 0x00), (0x00, 0x3F)]),
-            (Memory::Character, true) => ("steps with two lines", &[(0x3F, 0x00), (0x00, 0x3F)]),
-        };
-        let step = (before.address, after.address);
-        if steps && borders.contains(&step) {
-            let memory = match before.memory {
-                Memory::Display => "",
-                Memory::Character => " of characters",
+        let (from, to) = (before.address, after.address);
+        let passed = ends(before).contains(&(from, to)) || ends(before).contains(&(to, from));
+        if let (Some(step), true) = (step_of(before, event), passed) {
+            let groups = match before.eight_lines {
+                true => PASSED_ON_EIGHT_LINES,
+                false => PASSED_ON_FOUR_LINES,
             };
-            self.met(group, format!("{:02X} to {:02X}{memory}", step.0, step.1));
+            let memory = match before.memory {
+                Memory::Display => String::new(),
+                Memory::Character => format!(" of characters, {}", line_count(before)),
+            };
+            self.met(groups[step].0, format!("{from:02X} to {to:02X}{memory}"));
         }
+    }
+
+    /// Counts a step that is listed.
+    fn note_no_end(&mut self, before: &Part, event: Event, after: &Part) {
+        let memory = match before.memory {
+            Memory::Display => format!("with {}", line_count(before)),
+            Memory::Character => "of characters".to_string(),
+        };
+        if step_of(before, event).is_some() {
+            let step = format!("{:02X} to {:02X} {memory}", before.address, after.address);
+            self.met_listed("steps that pass no end", step);
+        }
+    }
+
+    fn note_not_passed(&mut self, before: &Part, event: Event, outcome: Outcome, after: &Part) {
+        let byte = completed(before.half, event.value as u8);
+        let class = match (outcome.answer, event.kind) {
+            (0, WAIT) => "by a wait",
+            (20, _) => "by a first half",
+            (1, DATA_WRITE) => "by a data write refused 1",
+            (1, DATA_READ) => "by a data read refused 1",
+            (1, _) => "by an instruction refused 1",
+            (2, _) => "by a half refused 2",
+            (3, _) => "by an address refused 3",
+            (0, STATUS_READ) => "by a status read",
+            (0, INSTRUCTION_WRITE) => match byte {
+                0x01 => "by clear",
+                0x02..=0x03 => "by home",
+                0x18..=0x1F => "by a display move",
+                0x20..=0x3F if before.two_lines != after.two_lines => "by a change of N",
+                0x20..=0x3F => "by N as it was",
+                0x40..=0x7F => "by a character address",
+                0x80 => "by 80",
+                0x81..=0xFF => "by a display address",
+                _ => return,
+            },
+            _ => return,
+        };
+        self.met("ends not passed", class);
     }
 
     fn note_shift(&mut self, before: &Part, after: &Part) {
@@ -396,6 +483,32 @@ fn line_count(part: &Part) -> &'static str {
 /// The range of an instruction: the highest bit that is set decides.
 fn range(byte: u8) -> &'static str {
     RANGES[(8 - byte.leading_zeros()) as usize]
+}
+
+/// The ends of the counter's memory, upwards.
+fn ends(part: &Part) -> &'static [(u8, u8)] {
+    match (part.memory, part.two_lines) {
+        (Memory::Display, false) => &[(0x4F, 0x00)],
+        (Memory::Display, true) => &[(0x27, 0x40), (0x67, 0x00)],
+        (Memory::Character, _) => &[(0x3F, 0x00)],
+    }
+}
+
+/// Whether a step in the set direction would pass an end.
+fn at_an_end(part: &Part) -> bool {
+    let mut ends = ends(part).iter();
+    ends.any(|&(last, first)| part.address == if part.up { last } else { first })
+}
+
+/// Which kind of step an event that is done is, in the order of the groups, if it is one.
+fn step_of(before: &Part, event: Event) -> Option<usize> {
+    let byte = completed(before.half, event.value as u8);
+    match event.kind {
+        DATA_WRITE => Some(0),
+        DATA_READ => Some(1),
+        INSTRUCTION_WRITE if (0x10..=0x17).contains(&byte) => Some(2),
+        _ => None,
+    }
 }
 
 /// The byte that a write completes.

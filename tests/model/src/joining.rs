@@ -23,6 +23,7 @@ struct Row {
     value: u32,
     answer: u32,
     result: u32,
+    wrap: u32,
 }
 
 /// How many transfers of the story were joined, or the first rows that tell another one.
@@ -69,12 +70,13 @@ fn row(number: u32, line: &str) -> Option<Row> {
     let columns = line.strip_suffix('\n')?.split(' ');
     let columns: Option<Vec<u32>> = columns.map(|column| column.parse().ok()).collect();
     match columns?[..] {
-        [first, kind, value, answer, result] if first == number => Some(Row {
+        [first, kind, value, answer, result, wrap] if first == number => Some(Row {
             number,
             kind,
             value,
             answer,
             result,
+            wrap,
         }),
         _ => None,
     }
@@ -98,16 +100,16 @@ fn the_same(eight: &Row, four: Row) -> bool {
     numbered == *eight
 }
 
-/// What was sent counts on the upper four lines alone. 0 with a value is 20 and 0 with its halves;
-/// 1 is 1 twice; 3 is 20 and 3; and there is no other case.
+/// What was sent counts on the upper four lines alone. 0 with a value is 20 and 0 with its halves,
+/// and the second says the wrap; 1 is 1 twice; 3 is 20 and 3; and there is no other case.
 fn in_halves(whole: &Row, first: Row, second: Row) -> bool {
     let sent = [first, second].map(|half| (half.kind, half.value & 0xF0));
-    let answered = [first, second].map(|half| (half.answer, half.result));
+    let answered = [first, second].map(|half| (half.answer, half.result, half.wrap));
     let [upper, lower] = halves(whole.result);
-    let due = match (whole.answer, whole.result) {
-        (0, _) => [(20, upper), (0, lower)],
-        (1, 0) => [(1, 0), (1, 0)],
-        (3, 0) => [(20, 0), (3, 0)],
+    let due = match (whole.answer, whole.result, whole.wrap) {
+        (0, _, wrap @ 0..=1) => [(20, upper, 0), (0, lower, wrap)],
+        (1, 0, 0) => [(1, 0, 0), (1, 0, 0)],
+        (3, 0, 0) => [(20, 0, 0), (3, 0, 0)],
         _ => return false,
     };
     sent == halves(whole.value).map(|half| (whole.kind, half)) && answered == due
@@ -138,7 +140,8 @@ impl fmt::Display for Row {
             value,
             answer,
             result,
+            wrap,
         } = self;
-        write!(to, "{number} {kind} {value} {answer} {result}")
+        write!(to, "{number} {kind} {value} {answer} {result} {wrap}")
     }
 }

@@ -16,7 +16,9 @@ mod wrong;
 
 use compare::{Run, What};
 use model::rules::PAPER;
+use model::table::bench;
 use programs::{Built, Itself, Programs};
+use std::io::{self, Read};
 use std::process::ExitCode;
 
 const USAGE: &str = "\
@@ -24,6 +26,7 @@ usage: model compare BENCH SCREEN MEND PANEL [--seed S] [--records N] [--scripts
                      [--only NUMBER | --script NUMBER | --pair NUMBER] [--wrong NAME]
        model wrong [BENCH SCREEN MEND PANEL] [--seed S] [--records N] [--scripts N] [--pairs N]
        model calls FILE [--seed S]
+       model bench < RECORD
        model names";
 
 fn main() -> ExitCode {
@@ -63,6 +66,13 @@ fn command(arguments: &[String]) -> Result<bool, String> {
         }
         ("calls", [file]) => {
             calls::write(file, options.run.seed).map_err(|error| format!("{file}: {error}"))
+        }
+        ("bench", []) => {
+            let mut record = Vec::new();
+            let read = io::stdin().read_to_end(&mut record);
+            read.map_err(|error| format!("standard input: {error}"))?;
+            print!("{}", bench(&PAPER, &record));
+            Ok(true)
         }
         ("names", []) => {
             for wrong in wrong::all() {

@@ -5,6 +5,7 @@ mod library;
 mod mending;
 mod panel;
 mod wiring;
+mod wrap;
 
 use crate::compare::{compare, Run};
 use crate::generator::case::{case, end_of};
@@ -15,7 +16,7 @@ use crate::model::record::{record, Event, MOST_BYTES};
 use crate::model::rules::PAPER;
 use crate::model::screen::{arguments, screen, Form};
 use crate::model::table::{bench, HEADING};
-use crate::model::transfer::{Outcome, Transfer};
+use crate::model::transfer::{done, stepped, Outcome, Transfer};
 use crate::programs::Itself;
 use crate::wrong;
 use std::collections::BTreeSet;
@@ -52,24 +53,19 @@ fn four_lines() -> Part {
     part
 }
 
-const DONE: Outcome = Outcome {
-    answer: 0,
-    value: 0,
-};
-
 #[test]
 fn the_example_prints_its_table() {
     let input = [
         0x00, 0x13, 0x01, 0x00, 0x00, 0x38, 0x04, 0x0E, 0xA6, 0x00, 0x00, 0x38, 0x02, 0x00, 0x00,
         0x04, 0x00, 0x0A, 0x02, 0x00, 0x00,
     ];
-    let expected = "event kind value answer result\n\
-                    1 0 56 1 0\n\
-                    2 4 3750 0 0\n\
-                    3 0 56 0 0\n\
-                    4 2 0 0 128\n\
-                    5 4 10 0 0\n\
-                    6 2 0 0 0\n";
+    let expected = "event kind value answer result wrap\n\
+                    1 0 56 1 0 0\n\
+                    2 4 3750 0 0 0\n\
+                    3 0 56 0 0 0\n\
+                    4 2 0 0 128 0\n\
+                    5 4 10 0 0 0\n\
+                    6 2 0 0 0 0\n";
     assert_eq!(bench(&PAPER, &input), expected);
 }
 
@@ -81,20 +77,14 @@ fn an_empty_record_prints_the_heading() {
 
 #[test]
 fn p1_switched_on_status_reads_128() {
-    assert_eq!(
-        status(&mut switched_on()),
-        Outcome {
-            answer: 0,
-            value: 128
-        }
-    );
+    assert_eq!(status(&mut switched_on()), done(128));
 }
 
 #[test]
 fn p2_a7_then_data_fills_cell_39() {
     let mut part = two_lines();
     assert_eq!(instruct(&mut part, 0xA7), 0);
-    assert_eq!(give(&mut part, Transfer::Data(0x41)), DONE);
+    assert_eq!(give(&mut part, Transfer::Data(0x41)), stepped(0, true));
     assert_eq!(part.display[39], 0x41);
     assert_eq!(part.address, 0x40);
 }
@@ -181,7 +171,7 @@ fn clear_sets_the_direction_to_up_and_keeps_shift_on_write() {
         instruct(&mut part, entry);
         assert_eq!(instruct(&mut part, 0x01), 0);
         for byte in [0x41, 0x42] {
-            assert_eq!(give(&mut part, Transfer::Data(byte)), DONE);
+            assert_eq!(give(&mut part, Transfer::Data(byte)), stepped(0, false));
         }
         assert_eq!(part.display[..2], [0x41, 0x42]);
         assert_eq!((part.address, part.shift), (0x02, shift));

@@ -3,11 +3,13 @@
 mod counters;
 mod halves;
 mod instructions;
+mod libraries;
 mod mends;
 mod panels;
 mod pictures;
 mod records;
 mod wirings;
+mod wraps;
 
 use crate::model::rules::Rules;
 
@@ -31,6 +33,7 @@ pub fn of_records() -> Vec<&'static Wrong> {
         counters::LIST,
         instructions::LIST,
         halves::LIST,
+        wraps::LIST,
         wirings::LIST,
         pictures::LIST,
         records::LIST,
@@ -44,13 +47,18 @@ pub fn of_scripts() -> Vec<&'static Wrong> {
     panels::LIST.iter().collect()
 }
 
+/// Those that calls from C catch.
+pub fn of_calls() -> Vec<&'static Wrong> {
+    libraries::LIST.iter().collect()
+}
+
 /// Those of `of_records` that pairs catch too, by joining alone.
 pub fn of_pairs() -> Vec<&'static Wrong> {
     wirings::LIST.iter().collect()
 }
 
 pub fn all() -> Vec<&'static Wrong> {
-    [of_records(), of_scripts()].concat()
+    [of_records(), of_scripts(), of_calls()].concat()
 }
 
 pub fn named(name: &str) -> Option<&'static Wrong> {

@@ -4,7 +4,7 @@ use borrow.Author.Needs.{needs}
 use borrow.Author.Tests.{not-true, not-false}
 use lib.Dec.{leb, leb→le}
 use lib.ListN.{getD}
-use mathlib.Core.Bool.{Bool, true}
+use mathlib.Core.Bool.{Bool, true, false}
 use mathlib.Core.List.{List}
 use mathlib.Core.Path.{_≡_, refl, sym, ap, _∙_}
 use native.Mathlib.Numerals.{add-one}
@@ -87,7 +87,7 @@ returns-2 c =
     let start = ranged .before .before in
     let e : c .before .loop .i ≡ 12 = omega arith in
     rw (← ranged .in-range .ensures, not-false (ranged .in-range .result) (c .before .before .if1 .left))
-    (ap (λ (x : Controller). told (record { controller = x; answer = Answer.Done 0 }))
+    (ap (λ (x : Controller). told (record { controller = x; answer = Answer.Done 0; wrap = false }))
     (c .before .loop .inv .1
     ∙ ap (λ (n : ℕ). afterFirst n (start .args .controller) (start .args .t2)) e
     ∙ all-twelve (start .args .controller) (start .args .t2)))

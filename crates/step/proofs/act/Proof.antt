@@ -50,17 +50,18 @@ read-requires c κs = search needs
 
 returns : tie.Need-returns
 returns c =
-    let cleared = c .before .before .before in
-    let start = cleared .before .before .before .before in
-    let obeyed = rw (c .before .before .decode .ensures) at (c .before .obey .ensures) in
-    instruction-acts (with (start .args .display .now) (start .args .character .now) (start .args .registers)) (start .args .byte) (c .before .obey .result) (cleared .before .before .enum-told .given .1) (cleared .clear .ensures) obeyed
+    let obeyed = c .before in
+    let cleared = obeyed .before .before in
+    let told = cleared .before .before in
+    let start = told .before .before in
+    instruction-acts (with (start .args .display .now) (start .args .character .now) (start .args .registers)) (start .args .byte) (obeyed .obey .result) (told .enum-told .given .1) (cleared .clear .ensures) (rw (obeyed .before .decode .ensures) at (obeyed .obey .ensures))
 
 returns-2 : tie.Need-returns-2
 returns-2 c =
-    let stored = c .before in
+    let stored = c .before .before in
     let told = stored .before .before .before in
     let start = told .before .before in
-    write-acts (with (start .args .display .now) (start .args .character .now) (start .args .registers)) (start .args .byte) (start .pre .1) (told .enum-told2 .given .1) (stored .store .ensures) (c .written .ensures)
+    write-acts (with (start .args .display .now) (start .args .character .now) (start .args .registers)) (start .args .byte) (start .pre .1) (told .enum-told2 .given .1) (stored .store .ensures) (c .before .written .ensures)
 
 returns-3 : tie.Need-returns-3
 returns-3 c =
@@ -69,10 +70,11 @@ returns-3 c =
 
 returns-4 : tie.Need-returns-4
 returns-4 c =
-    let addressed = c .before .before in
+    let read = c .before in
+    let addressed = read .before .before in
     let told = addressed .before .before .before in
     let start = told .before .before in
-    read-acts (with (start .args .display .now) (start .args .character .now) (start .args .registers)) (start .args .byte) (start .pre .1) (told .enum-told4 .given .1) (rw (c .before .answered2 .ensures, addressed .addressed .ensures)) (c .read .ensures)
+    read-acts (with (start .args .display .now) (start .args .character .now) (start .args .registers)) (start .args .byte) (start .pre .1) (told .enum-told4 .given .1) (rw (read .before .answered2 .ensures, addressed .addressed .ensures)) (read .read .ensures)
 
 pub act-spec : {M : Type 1} → statement M
 act-spec =

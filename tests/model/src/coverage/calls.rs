@@ -32,9 +32,10 @@ const CLASSES: [Group; 7] = [
         "F = 1", "direction down", "shift on write", "shift", "display", "cursor", "blink"]),
     ("lists", &["1 event", "4096 events", "4097 events", "4097 events with room", "not whole with room", "not whole without room",
         "room to the byte", "room one byte short", "ill-formed first", "ill-formed in the middle", "ill-formed last"]),
-    ("answers to events", &["0", "1", "2", "3", "20", "a value read", "one done behind a refused one"]),
+    ("answers to events", &["0", "1", "2", "3", "20", "a value read", "a wrap", "one done behind a refused one"]),
     ("pictures from C", &["plain", "dark 1", "dark above 1", "room to the byte", "room one byte short"]),
-    ("panel from C", &["text on line 0", "text on line 1", "on eight lines", "on four lines", "a night that is written", "a night that is not"]),
+    ("panel from C", &["text on line 0", "text on line 1", "on eight lines", "on four lines", "night 22 logged", "night 23 logged on eight lines", "night 23 logged on four lines",
+        "a night that is written", "a night that is not"]),
     ("mendings from C", &["nothing kept", "4096 kept", "bytes dropped", "above 65535 dropped", "length altered", "length kept", "room to the byte", "room one byte short"]),
 ];
 
@@ -71,9 +72,14 @@ impl Coverage {
             Call::Text { line, text, state } => {
                 self.note_none(text.len(), "text");
                 self.met_if(done, "panel from C", format!("text on line {line}"));
-                self.note_wiring(done, state);
+                self.note_wiring(done, state, "");
             }
-            Call::LogNight { state, .. } => self.note_wiring(done, state),
+            Call::LogNight { state, night, .. } => {
+                self.note_wiring(done, state, "");
+                self.met_if(done && *night == 22, "panel from C", "night 22 logged");
+                let logged = done && *night == 23;
+                self.note_wiring(logged, state, "night 23 logged ");
+            }
             Call::LookUp { .. } => {
                 let class = ["a night that is not", "a night that is written"];
                 if let [Left::Number(written), _] = left[..] {
@@ -179,9 +185,10 @@ impl Coverage {
     fn note_answers(&mut self, answers: &[u8]) {
         let group = "answers to events";
         let mut refused = false;
-        for answer in answers.chunks_exact(2) {
+        for answer in answers.chunks_exact(3) {
             self.met(group, answer[0]);
             self.met_if(answer[1] > 0, group, "a value read");
+            self.met_if(answer[2] == 1, group, "a wrap");
             let behind = refused && answer[0] == 0;
             self.met_if(behind, group, "one done behind a refused one");
             refused |= (1..=3).contains(&answer[0]);
@@ -226,10 +233,10 @@ impl Coverage {
         self.met_if(short, group, "room one byte short");
     }
 
-    fn note_wiring(&mut self, done: bool, state: &[u8]) {
+    fn note_wiring(&mut self, done: bool, state: &[u8], what: &str) {
         if let (true, Some(part)) = (done, take(state)) {
             let lines = if part.eight_lines { "eight" } else { "four" };
-            self.met("panel from C", format!("on {lines} lines"));
+            self.met("panel from C", format!("{what}on {lines} lines"));
         }
     }
 

@@ -1,6 +1,6 @@
 //! What the pairs of a run have met, and what they should have met.
 
-use super::{line_count, listed, range, Coverage, Group, ENDS, RANGES};
+use super::{line_count, listed, range, Coverage, Group, PASSED_ON_EIGHT_LINES, RANGES, SHIFTS};
 use crate::generator::case::{end_of, Shown};
 use crate::generator::pair::Pair;
 use crate::model::part::{switched_on, Memory, Part};
@@ -24,7 +24,12 @@ const CLASSES: [Group; 9] = [
 
 impl Coverage {
     pub fn of_pairs() -> Coverage {
-        let mut order = [listed(&CLASSES), listed(&ENDS)].concat();
+        let mut order = [
+            listed(&CLASSES),
+            listed(&PASSED_ON_EIGHT_LINES),
+            listed(&SHIFTS),
+        ]
+        .concat();
         let told = RANGES.into_iter().filter(|&range| range != "20-3F");
         order.extend(told.map(|range| ("instructions", range.to_string())));
         Coverage::new("pairs, ", order)

@@ -343,6 +343,10 @@ impl Author<'_> {
 
     /// Over a border of either memory, in either direction, by writes, reads and steps.
     pub(super) fn cross_border(&mut self) {
+        if self.random.percent(50) {
+            self.pass_end();
+            return;
+        }
         if self.random.percent(70) {
             self.entry_mode();
         }
@@ -362,6 +366,34 @@ impl Author<'_> {
             if self.random.percent(50) {
                 self.status();
             }
+        }
+    }
+
+    /// Over an end of either memory, in either direction, by a write, a read or a cursor move.
+    fn pass_end(&mut self) {
+        let mode = 0x04 | self.random.byte() & 0x03;
+        let up = mode & 0x02 > 0;
+        self.instruct(mode);
+        let display: &[(u8, u8)] = match self.part.two_lines {
+            false => &[(0xCF, 0x80)],
+            true => &[(0xA7, 0xC0), (0xE7, 0x80)],
+        };
+        let display = self.random.pick(display);
+        let (last, first) = self.random.pick(&[display, display, (0x7F, 0x40)]);
+        self.instruct(if up { last } else { first });
+        match self.random.below(3) {
+            0 => self.read(),
+            1 => {
+                let any = self.random.byte() & 0x03;
+                self.instruct(if up { 0x14 } else { 0x10 } | any);
+            }
+            _ => {
+                let code = self.code();
+                self.write(code);
+            }
+        }
+        if self.random.percent(50) {
+            self.status();
         }
     }
 

@@ -38,23 +38,44 @@ pub fn addressed(part: &mut Part) -> &mut u8 {
     }
 }
 
-pub fn step_up(memory: Memory, two_lines: bool, address: u8) -> u8 {
-    match (memory, two_lines, address) {
-        (Memory::Display, false, 0x4F) => 0x00,
-        (Memory::Display, true, 0x27) => 0x40,
-        (Memory::Display, true, 0x67) => 0x00,
-        (Memory::Character, _, 0x3F) => 0x00,
-        _ => address.wrapping_add(1),
+/// Where a step of the counter leads, and whether it passed an end (02, 8/12).
+#[derive(Clone, Copy, PartialEq, Eq, Debug)]
+pub struct Step {
+    pub address: u8,
+    pub wrap: bool,
+}
+
+pub fn past_an_end(address: u8) -> Step {
+    Step {
+        address,
+        wrap: true,
     }
 }
 
-pub fn step_down(memory: Memory, two_lines: bool, address: u8) -> u8 {
+pub fn to_the_next(address: u8) -> Step {
+    Step {
+        address,
+        wrap: false,
+    }
+}
+
+pub fn step_up(memory: Memory, two_lines: bool, address: u8) -> Step {
     match (memory, two_lines, address) {
-        (Memory::Display, false, 0x00) => 0x4F,
-        (Memory::Display, true, 0x40) => 0x27,
-        (Memory::Display, true, 0x00) => 0x67,
-        (Memory::Character, _, 0x00) => 0x3F,
-        _ => address.wrapping_sub(1),
+        (Memory::Display, false, 0x4F) => past_an_end(0x00),
+        (Memory::Display, true, 0x27) => past_an_end(0x40),
+        (Memory::Display, true, 0x67) => past_an_end(0x00),
+        (Memory::Character, _, 0x3F) => past_an_end(0x00),
+        _ => to_the_next(address.wrapping_add(1)),
+    }
+}
+
+pub fn step_down(memory: Memory, two_lines: bool, address: u8) -> Step {
+    match (memory, two_lines, address) {
+        (Memory::Display, false, 0x00) => past_an_end(0x4F),
+        (Memory::Display, true, 0x40) => past_an_end(0x27),
+        (Memory::Display, true, 0x00) => past_an_end(0x67),
+        (Memory::Character, _, 0x00) => past_an_end(0x3F),
+        _ => to_the_next(address.wrapping_sub(1)),
     }
 }
 

@@ -32,7 +32,7 @@ pub fn agree(half: Half, transfer: Transfer) -> bool {
     half.rs == transfer.rs() && half.read == transfer.read()
 }
 
-/// Waits and costs no ticks; of a read it answers the upper half of the value.
+/// Waits, costs no ticks and steps no counter; of a read it answers the upper half of the value.
 pub fn first_half(rules: &Rules, part: &mut Part, transfer: Transfer) -> Outcome {
     let value = if transfer.read() {
         (rules.whole)(rules, &mut part.clone(), transfer).value
@@ -47,6 +47,7 @@ pub fn first_half(rules: &Rules, part: &mut Part, transfer: Transfer) -> Outcome
     Outcome {
         answer: 20,
         value: value & 0xF0,
+        wrap: false,
     }
 }
 
@@ -56,7 +57,7 @@ pub fn second_half(rules: &Rules, part: &mut Part, half: Half, transfer: Transfe
     part.half = None;
     let outcome = (rules.whole)(rules, part, transfer.of(byte));
     Outcome {
-        answer: outcome.answer,
         value: outcome.value << 4,
+        ..outcome
     }
 }

@@ -2,6 +2,7 @@
 
 use super::part::{Memory, Part};
 use super::rules::Rules;
+use super::transfer::{done, refused, stepped, Outcome};
 
 #[derive(Clone, Copy, PartialEq, Eq, Debug)]
 pub enum Instruction {
@@ -39,26 +40,27 @@ pub fn ticks(instruction: Instruction) -> u16 {
 }
 
 /// Acts, and answers 0 or 3.
-pub fn instruct(rules: &Rules, part: &mut Part, byte: u8) -> u8 {
+pub fn instruct(rules: &Rules, part: &mut Part, byte: u8) -> Outcome {
     let instruction = (rules.decide)(byte);
+    let mut outcome = done(0);
     match instruction {
         Instruction::Nothing => {}
         Instruction::Clear => (rules.clear)(part),
         Instruction::Home => (rules.home)(part),
         Instruction::EntryMode => (rules.entry_mode)(part, byte),
         Instruction::Settings => (rules.settings)(part, byte),
-        Instruction::Move => (rules.move_by)(rules, part, byte),
+        Instruction::Move => outcome = stepped(0, (rules.move_by)(rules, part, byte)),
         Instruction::Function => (rules.function)(part, byte),
         Instruction::CharacterAddress => point(part, Memory::Character, byte & 0x3F),
         Instruction::DisplayAddress => {
             if !(rules.has_address)(part.two_lines, byte & 0x7F) {
-                return 3;
+                return refused(3);
             }
             point(part, Memory::Display, byte & 0x7F);
         }
     }
     part.busy = (rules.ticks)(instruction);
-    0
+    outcome
 }
 
 pub fn point(part: &mut Part, memory: Memory, address: u8) {
@@ -93,18 +95,22 @@ pub fn settings(part: &mut Part, byte: u8) {
     part.blink_on = bit(byte, 0);
 }
 
-pub fn move_by(rules: &Rules, part: &mut Part, byte: u8) {
+/// Whether the counter passed an end; a move of the display steps no counter.
+pub fn move_by(rules: &Rules, part: &mut Part, byte: u8) -> bool {
     if bit(byte, 3) {
         move_display(rules, part, !bit(byte, 2));
+        false
     } else {
-        step(rules, part, bit(byte, 2));
+        step(rules, part, bit(byte, 2))
     }
 }
 
-/// One step of the counter in whichever memory it belongs to.
-pub fn step(rules: &Rules, part: &mut Part, up: bool) {
-    let stepped = if up { rules.step_up } else { rules.step_down };
-    part.address = stepped(part.memory, part.two_lines, part.address);
+/// One step of the counter in whichever memory it belongs to; whether it passed an end.
+pub fn step(rules: &Rules, part: &mut Part, up: bool) -> bool {
+    let rule = if up { rules.step_up } else { rules.step_down };
+    let step = rule(part.memory, part.two_lines, part.address);
+    part.address = step.address;
+    step.wrap
 }
 
 pub fn move_display(rules: &Rules, part: &mut Part, left: bool) {

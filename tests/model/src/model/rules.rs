@@ -3,6 +3,7 @@
 use super::counter::*;
 use super::halves::*;
 use super::instruction::*;
+use super::library::list_answer;
 use super::mend::*;
 use super::panel::*;
 use super::part::*;
@@ -16,8 +17,8 @@ pub struct Rules {
     pub switched_on: fn() -> Part,
 
     pub has_address: fn(bool, u8) -> bool,
-    pub step_up: fn(Memory, bool, u8) -> u8,
-    pub step_down: fn(Memory, bool, u8) -> u8,
+    pub step_up: fn(Memory, bool, u8) -> Step,
+    pub step_down: fn(Memory, bool, u8) -> Step,
     pub shift_left: fn(bool, u8) -> u8,
     pub shift_right: fn(bool, u8) -> u8,
     pub wait: fn(&mut Part, u16),
@@ -28,12 +29,12 @@ pub struct Rules {
     pub home: fn(&mut Part),
     pub entry_mode: fn(&mut Part, u8),
     pub settings: fn(&mut Part, u8),
-    pub move_by: fn(&Rules, &mut Part, u8),
+    pub move_by: fn(&Rules, &mut Part, u8) -> bool,
     pub function: fn(&mut Part, u8),
 
     pub whole: fn(&Rules, &mut Part, Transfer) -> Outcome,
-    pub write_data: fn(&Rules, &mut Part, u8),
-    pub read_data: fn(&Rules, &mut Part) -> u8,
+    pub write_data: fn(&Rules, &mut Part, u8) -> Outcome,
+    pub read_data: fn(&Rules, &mut Part) -> Outcome,
     pub status: fn(&mut Part) -> u8,
 
     pub transfer: fn(&Rules, &mut Part, Transfer) -> Outcome,
@@ -92,9 +93,12 @@ pub struct Rules {
     pub panel_ticks: u16,
     pub call_events: fn(&Rules, &Part, &[Transfer]) -> Vec<Event>,
     pub answer: fn(&Rules, &Part, &Call) -> Result<Answer, u8>,
+    pub call_wrap: fn(&Call, &[(Event, Outcome)]) -> bool,
     pub overfull: fn(usize) -> bool,
     pub called: fn(&Rules, &Call, &[Event]) -> Written,
     pub panel: fn(&Rules, &Call, &[u8]) -> Written,
+
+    pub list_answer: fn(Outcome) -> [u8; 3],
 
     pub table: fn(&Rules, &[Event]) -> String,
     pub table_line: fn(usize, Event, Outcome) -> String,
@@ -175,9 +179,11 @@ pub const PAPER: Rules = Rules {
     panel_ticks: PANEL_TICKS,
     call_events,
     answer,
+    call_wrap,
     overfull,
     called,
     panel,
+    list_answer,
     table,
     table_line,
     dot_lines,

@@ -4,7 +4,7 @@ use super::record::{run, Event};
 use super::rules::Rules;
 use super::transfer::Outcome;
 
-pub const HEADING: &str = "event kind value answer result\n";
+pub const HEADING: &str = "event kind value answer result wrap\n";
 
 pub fn bench(rules: &Rules, input: &[u8]) -> String {
     if (rules.too_long)(input.len()) {
@@ -31,8 +31,9 @@ pub fn table(rules: &Rules, events: &[Event]) -> String {
 }
 
 pub fn table_line(number: usize, event: Event, outcome: Outcome) -> String {
+    let wrap = u8::from(outcome.wrap);
     format!(
-        "{number} {} {} {} {}\n",
+        "{number} {} {} {} {} {wrap}\n",
         event.kind, event.value, outcome.answer, outcome.value
     )
 }

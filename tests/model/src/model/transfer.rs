@@ -44,45 +44,55 @@ impl Transfer {
 pub struct Outcome {
     pub answer: u8,
     pub value: u8,
+    /// The counter was stepped, and passed an end.
+    pub wrap: bool,
 }
 
 pub fn done(value: u8) -> Outcome {
-    Outcome { answer: 0, value }
+    stepped(value, false)
+}
+
+/// Done, with a step of the counter that passed an end or did not.
+pub fn stepped(value: u8, wrap: bool) -> Outcome {
+    Outcome {
+        answer: 0,
+        value,
+        wrap,
+    }
 }
 
 pub fn refused(answer: u8) -> Outcome {
-    Outcome { answer, value: 0 }
+    Outcome {
+        answer,
+        value: 0,
+        wrap: false,
+    }
 }
 
 pub fn whole(rules: &Rules, part: &mut Part, transfer: Transfer) -> Outcome {
     match transfer {
-        Transfer::Instruction(byte) => Outcome {
-            answer: instruct(rules, part, byte),
-            value: 0,
-        },
-        Transfer::Data(byte) => {
-            (rules.write_data)(rules, part, byte);
-            done(0)
-        }
+        Transfer::Instruction(byte) => instruct(rules, part, byte),
+        Transfer::Data(byte) => (rules.write_data)(rules, part, byte),
         Transfer::Status => done((rules.status)(part)),
-        Transfer::Read => done((rules.read_data)(rules, part)),
+        Transfer::Read => (rules.read_data)(rules, part),
     }
 }
 
-pub fn write_data(rules: &Rules, part: &mut Part, byte: u8) {
+pub fn write_data(rules: &Rules, part: &mut Part, byte: u8) -> Outcome {
     *addressed(part) = byte;
-    step(rules, part, part.up);
+    let wrap = step(rules, part, part.up);
     if part.memory == Memory::Display && part.shift_on_write {
         move_display(rules, part, part.up);
     }
     part.busy = 10;
+    stepped(0, wrap)
 }
 
-pub fn read_data(rules: &Rules, part: &mut Part) -> u8 {
+pub fn read_data(rules: &Rules, part: &mut Part) -> Outcome {
     let byte = *addressed(part);
-    step(rules, part, part.up);
+    let wrap = step(rules, part, part.up);
     part.busy = 10;
-    byte
+    stepped(byte, wrap)
 }
 
 pub fn status(part: &mut Part) -> u8 {

@@ -1,5 +1,5 @@
-//! Tests of the library for C, as the model has it, by the request of whole lists (02, 7/12) and by
-//! the example host's output.
+//! Tests of the library for C, as the model has it, by the request of whole lists (02, 7/12), whose
+//! answers are three bytes an event since 8/12, and by the example host's output.
 
 use crate::generator::author::events;
 use crate::generator::calls::bases;
@@ -80,7 +80,7 @@ fn a_list_answers_as_its_events_given_singly() {
     let mut state = fresh();
     let mut singly = Vec::new();
     for event in events.chunks_exact(3) {
-        match list(&state, event, 2).left().as_deref() {
+        match list(&state, event, 3).left().as_deref() {
             Some([Left::Bytes(after), Left::Bytes(answer)]) => {
                 state.clone_from(after);
                 singly.extend(answer);
@@ -88,23 +88,24 @@ fn a_list_answers_as_its_events_given_singly() {
             other => panic!("{other:?}"),
         }
     }
-    let whole = list(&fresh(), &events, 400).left();
+    let whole = list(&fresh(), &events, 600).left();
     assert_eq!(whole, Some(vec![Left::Bytes(state), Left::Bytes(singly)]));
 }
 
 #[test]
 fn a_list_is_refused_in_the_order_16_6_9() {
     let bad = [5, 0, 0];
-    assert_eq!(list(&[], &bad, 1).refusals(), [16, 6, 9]);
-    assert_eq!(list(&fresh(), &bad, 1).refusals(), [6, 9]);
-    assert_eq!(list(&fresh(), &bad, 2).refusals(), [9]);
-    assert_eq!(list(&fresh(), &[4, 0, 0, 4], 2).refusals(), [9]);
+    assert_eq!(list(&[], &bad, 2).refusals(), [16, 6, 9]);
+    assert_eq!(list(&fresh(), &bad, 2).refusals(), [6, 9]);
+    assert_eq!(list(&fresh(), &bad, 3).refusals(), [9]);
+    assert_eq!(list(&fresh(), &[4, 0, 0, 4], 3).refusals(), [9]);
+    assert_eq!(list(&fresh(), &[4, 0, 0, 4, 0], 2).refusals(), [6, 9]);
     assert_eq!(list(&fresh(), &[4, 0], 0).refusals(), [9]);
-    assert_eq!(list(&fresh(), &[4, 0, 0], 1).refusals(), [6]);
+    assert_eq!(list(&fresh(), &[4, 0, 0], 2).refusals(), [6]);
     let more = [4; 3 * (MOST_EVENTS + 1)];
-    assert_eq!(list(&fresh(), &more, 8193).refusals(), [6, 9]);
-    assert_eq!(list(&fresh(), &more, 8194).refusals(), [9]);
-    assert_eq!(list(&fresh(), &more[3..], 8192).refusals(), []);
+    assert_eq!(list(&fresh(), &more, 12_290).refusals(), [6, 9]);
+    assert_eq!(list(&fresh(), &more, 12_291).refusals(), [9]);
+    assert_eq!(list(&fresh(), &more[3..], 12_288).refusals(), []);
     assert_eq!(list(&fresh(), &[], 0).refusals(), []);
 }
 
@@ -155,18 +156,20 @@ impl Host {
 
     /// A list and its table, with the heading and the columns of the bench program.
     fn list(&mut self, events: &[[u8; 3]]) {
-        let call = list(&self.state, &events.concat(), 2 * events.len());
+        let call = list(&self.state, &events.concat(), 3 * events.len());
         let left = call.left().expect("a list that is done");
         self.say("list", |_| call);
         let Left::Bytes(answers) = &left[1] else {
             panic!("{left:?}");
         };
         self.printed += &bench(&PAPER, &record(&[]));
-        for (place, (event, answer)) in events.iter().zip(answers.chunks_exact(2)).enumerate() {
+        for (place, (event, answer)) in events.iter().zip(answers.chunks_exact(3)).enumerate() {
             let value = u16::from_be_bytes([event[1], event[2]]);
             let row = [place as u16 + 1, event[0].into(), value];
             let row = row.map(|column| column.to_string()).join(" ");
-            self.printed += &format!("{row} {} {}\n", answer[0], answer[1]);
+            let answer = [answer[0], answer[1], answer[2]];
+            let answer = answer.map(|column| column.to_string()).join(" ");
+            self.printed += &format!("{row} {answer}\n");
         }
     }
 
@@ -216,6 +219,9 @@ fn the_host_prints_its_evening() {
         [0, 0, 0x00],
         [0, 0, 0xE0],
         [0, 0, 0x80],
+        [4, 0, 10],
+        [0, 0, 0x10],
+        [0, 0, 0x00],
         [4, 0, 10],
         [0, 0, 0x80],
         [0, 0, 0xF0],

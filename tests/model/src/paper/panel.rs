@@ -60,7 +60,7 @@ fn after(part: &Part, call: &Call) -> Part {
 }
 
 /// The parts and calls that a few hundred scripts meet.
-fn met() -> Vec<(Part, Call)> {
+pub(super) fn met() -> Vec<(Part, Call)> {
     let scripts = (1..=300).map(|number| script(9, number));
     let given = scripts.flat_map(|script| script.calls);
     let sound = given.filter_map(|given| {

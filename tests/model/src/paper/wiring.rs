@@ -12,16 +12,29 @@ use crate::model::transfer::{Outcome, Transfer};
 /// What a transfer is answered on eight lines, and its halves on four.
 type Told = (Outcome, [Outcome; 2]);
 
-/// What the halves are answered exactly where eight lines answer so: there is no other case.
-fn agreed(answer: u8, value: u8) -> Told {
-    let outcome = |answer, value| Outcome { answer, value };
-    let halves = match (answer, value) {
-        (0, _) => [outcome(20, value & 0xF0), outcome(0, value << 4)],
-        (1, 0) => [outcome(1, 0), outcome(1, 0)],
-        (3, 0) => [outcome(20, 0), outcome(3, 0)],
+/// What the halves are answered exactly where eight lines answer so: there is no other case. The
+/// second says the wrap that the one transfer says, the first none.
+fn agreed_with(answer: u8, value: u8, wrap: bool) -> Told {
+    let outcome = |answer, value, wrap| Outcome {
+        answer,
+        value,
+        wrap,
+    };
+    let halves = match (answer, value, wrap) {
+        (0, ..) => [
+            outcome(20, value & 0xF0, false),
+            outcome(0, value << 4, wrap),
+        ],
+        (1, 0, false) => [outcome(1, 0, false), outcome(1, 0, false)],
+        (3, 0, false) => [outcome(20, 0, false), outcome(3, 0, false)],
         other => panic!("{other:?}"),
     };
-    (outcome(answer, value), halves)
+    (outcome(answer, value, wrap), halves)
+}
+
+/// The same where no end is passed.
+fn agreed(answer: u8, value: u8) -> Told {
+    agreed_with(answer, value, false)
 }
 
 /// Two parts equal but for the wiring, with these N and F.
@@ -96,7 +109,8 @@ fn every_instruction_but_20_to_3f_agrees() {
             let lacking = byte >= 0x80 && !(PAPER.has_address)(rest >= 0x08, byte & 0x7F);
             let answer = if lacking { 3 } else { 0 };
             let told = tell_free(&mut wirings(rest), Transfer::Instruction(byte));
-            assert_eq!(told, agreed(answer, 0));
+            let down_from_00 = (0x10..=0x13).contains(&byte);
+            assert_eq!(told, agreed_with(answer, 0, down_from_00));
         }
     }
 }
@@ -152,7 +166,7 @@ fn a_function_set_ends_the_story() {
     let parting = Parting { event: 1, story: 2 };
     assert_eq!(
         join(&parting, &printed(&eight), &printed(&four)).unwrap_err(),
-        "eight lines: 5 2 0 20 128; four lines: 6 2 0 20 128, 7 2 0 0 0"
+        "eight lines: 5 2 0 20 128 0; four lines: 6 2 0 20 128 0, 7 2 0 0 0 0"
     );
 }
 
@@ -188,7 +202,7 @@ fn a_story_leaves_parts_equal_but_for_the_wiring_after_each_transfer() {
                 assert_eq!(whole, first);
             } else {
                 let second = next(&mut parts[1]);
-                let due = agreed(whole.answer, whole.value);
+                let due = agreed_with(whole.answer, whole.value, whole.wrap);
                 assert_eq!((whole, [first, second]), due);
             }
             assert!(equal_but_for_the_wiring(&parts));
@@ -230,101 +244,120 @@ fn table(rows: &[&str]) -> Vec<u8> {
 
 /// Joins these rows behind a function set that parts the two.
 fn joined(eight: &[&str], four: &[&str]) -> Result<u64, String> {
-    let eight = table(&[&["0 48 0 0"], eight].concat());
-    let four = table(&[&["0 32 0 0"], four].concat());
+    let eight = table(&[&["0 48 0 0 0"], eight].concat());
+    let four = table(&[&["0 32 0 0 0"], four].concat());
     join(&Parting { event: 0, story: 1 }, &eight, &four)
 }
 
 #[test]
 fn rows_that_join() {
     for (eight, four) in [
-        ("2 0 0 133", ["2 0 20 128", "2 0 0 80"]),
-        ("3 0 0 47", ["3 0 20 32", "3 0 0 240"]),
-        ("1 65 0 0", ["1 64 20 0", "1 16 0 0"]),
-        ("1 65 0 0", ["1 79 20 0", "1 31 0 0"]),
-        ("1 47 0 0", ["1 35 20 0", "1 243 0 0"]),
-        ("0 1 1 0", ["0 0 1 0", "0 16 1 0"]),
-        ("3 0 1 0", ["3 0 1 0", "3 0 1 0"]),
-        ("0 208 3 0", ["0 208 20 0", "0 0 3 0"]),
+        ("2 0 0 133 0", ["2 0 20 128 0", "2 0 0 80 0"]),
+        ("3 0 0 47 0", ["3 0 20 32 0", "3 0 0 240 0"]),
+        ("1 65 0 0 0", ["1 64 20 0 0", "1 16 0 0 0"]),
+        ("1 65 0 0 0", ["1 79 20 0 0", "1 31 0 0 0"]),
+        ("1 47 0 0 0", ["1 35 20 0 0", "1 243 0 0 0"]),
+        ("0 1 1 0 0", ["0 0 1 0 0", "0 16 1 0 0"]),
+        ("3 0 1 0 0", ["3 0 1 0 0", "3 0 1 0 0"]),
+        ("0 208 3 0 0", ["0 208 20 0 0", "0 0 3 0 0"]),
+        ("1 65 0 0 1", ["1 64 20 0 0", "1 16 0 0 1"]),
+        ("3 0 0 47 1", ["3 0 20 32 0", "3 0 0 240 1"]),
+        ("0 20 0 0 1", ["0 16 20 0 0", "0 64 0 0 1"]),
     ] {
         assert_eq!(joined(&[eight], &four), Ok(1), "{eight}");
     }
     assert_eq!(joined(&[], &[]), Ok(0));
-    assert_eq!(joined(&["4 10 0 0"], &["4 10 0 0"]), Ok(0));
+    assert_eq!(joined(&["4 10 0 0 0"], &["4 10 0 0 0"]), Ok(0));
 }
 
 #[test]
 fn rows_that_do_not_join() {
-    let refused: [(&str, &[&str]); 33] = [
+    let refused: [(&str, &[&str]); 43] = [
         // Done: the answers, the value's halves, and what was sent.
-        ("1 65 0 0", &["1 64 0 0", "1 16 0 0"]),
-        ("1 65 0 0", &["1 64 20 0", "1 16 20 0"]),
-        ("1 65 0 0", &["1 64 20 0", "1 16 1 0"]),
-        ("1 65 0 0", &["1 64 20 0", "1 16 2 0"]),
-        ("1 65 0 0", &["1 64 1 0", "1 16 1 0"]),
-        ("3 0 0 47", &["3 0 20 240", "3 0 0 32"]),
-        ("3 0 0 47", &["3 0 20 32", "3 0 0 32"]),
-        ("3 0 0 47", &["3 0 20 240", "3 0 0 240"]),
-        ("3 0 0 47", &["3 0 20 47", "3 0 0 240"]),
-        ("3 0 0 47", &["3 0 20 32", "3 0 0 15"]),
-        ("2 0 0 133", &["2 0 1 0", "2 0 1 0"]),
-        ("2 0 0 133", &["2 0 20 0", "2 0 0 80"]),
-        ("1 65 0 0", &["1 16 20 0", "1 64 0 0"]),
-        ("1 65 0 0", &["1 64 20 0", "1 64 0 0"]),
-        ("1 65 0 0", &["0 64 20 0", "0 16 0 0"]),
-        ("1 65 0 0", &["1 64 20 0", "0 16 0 0"]),
+        ("1 65 0 0 0", &["1 64 0 0 0", "1 16 0 0 0"]),
+        ("1 65 0 0 0", &["1 64 20 0 0", "1 16 20 0 0"]),
+        ("1 65 0 0 0", &["1 64 20 0 0", "1 16 1 0 0"]),
+        ("1 65 0 0 0", &["1 64 20 0 0", "1 16 2 0 0"]),
+        ("1 65 0 0 0", &["1 64 1 0 0", "1 16 1 0 0"]),
+        ("3 0 0 47 0", &["3 0 20 240 0", "3 0 0 32 0"]),
+        ("3 0 0 47 0", &["3 0 20 32 0", "3 0 0 32 0"]),
+        ("3 0 0 47 0", &["3 0 20 240 0", "3 0 0 240 0"]),
+        ("3 0 0 47 0", &["3 0 20 47 0", "3 0 0 240 0"]),
+        ("3 0 0 47 0", &["3 0 20 32 0", "3 0 0 15 0"]),
+        ("2 0 0 133 0", &["2 0 1 0 0", "2 0 1 0 0"]),
+        ("2 0 0 133 0", &["2 0 20 0 0", "2 0 0 80 0"]),
+        ("1 65 0 0 0", &["1 16 20 0 0", "1 64 0 0 0"]),
+        ("1 65 0 0 0", &["1 64 20 0 0", "1 64 0 0 0"]),
+        ("1 65 0 0 0", &["0 64 20 0 0", "0 16 0 0 0"]),
+        ("1 65 0 0 0", &["1 64 20 0 0", "0 16 0 0 0"]),
         // Refused with 1, and with 3.
-        ("1 65 1 0", &["1 64 20 0", "1 16 1 0"]),
-        ("1 65 1 0", &["1 64 1 0", "1 16 20 0"]),
-        ("3 0 1 0", &["3 0 1 32", "3 0 1 0"]),
-        ("3 0 1 47", &["3 0 1 0", "3 0 1 0"]),
-        ("0 208 3 0", &["0 208 3 0", "0 0 20 0"]),
-        ("0 208 3 0", &["0 208 20 0", "0 0 0 0"]),
-        ("0 208 3 0", &["0 208 20 0", "0 0 1 0"]),
-        ("0 208 0 0", &["0 208 20 0", "0 0 3 0"]),
+        ("1 65 1 0 0", &["1 64 20 0 0", "1 16 1 0 0"]),
+        ("1 65 1 0 0", &["1 64 1 0 0", "1 16 20 0 0"]),
+        ("3 0 1 0 0", &["3 0 1 32 0", "3 0 1 0 0"]),
+        ("3 0 1 47 0", &["3 0 1 0 0", "3 0 1 0 0"]),
+        ("0 208 3 0 0", &["0 208 3 0 0", "0 0 20 0 0"]),
+        ("0 208 3 0 0", &["0 208 20 0 0", "0 0 0 0 0"]),
+        ("0 208 3 0 0", &["0 208 20 0 0", "0 0 1 0 0"]),
+        ("0 208 0 0 0", &["0 208 20 0 0", "0 0 3 0 0"]),
+        // The wrap, which the second half says where it is done, and 0 or 1.
+        ("1 65 0 0 1", &["1 64 20 0 0", "1 16 0 0 0"]),
+        ("1 65 0 0 0", &["1 64 20 0 0", "1 16 0 0 1"]),
+        ("1 65 0 0 1", &["1 64 20 0 1", "1 16 0 0 0"]),
+        ("1 65 0 0 1", &["1 64 20 0 1", "1 16 0 0 1"]),
+        ("1 65 0 0 2", &["1 64 20 0 0", "1 16 0 0 2"]),
+        ("3 0 0 47 1", &["3 0 20 32 0", "3 0 0 240 0"]),
+        ("1 65 1 0 1", &["1 64 1 0 0", "1 16 1 0 1"]),
+        ("1 65 1 0 0", &["1 64 1 0 1", "1 16 1 0 0"]),
+        ("0 208 3 0 1", &["0 208 20 0 0", "0 0 3 0 1"]),
+        ("0 208 3 0 0", &["0 208 20 0 1", "0 0 3 0 0"]),
         // No other case.
-        ("1 65 2 0", &["1 64 20 0", "1 16 2 0"]),
-        ("1 65 2 0", &["1 64 2 0", "1 16 2 0"]),
-        ("1 65 20 0", &["1 64 20 0", "1 16 0 0"]),
+        ("1 65 2 0 0", &["1 64 20 0 0", "1 16 2 0 0"]),
+        ("1 65 2 0 0", &["1 64 2 0 0", "1 16 2 0 0"]),
+        ("1 65 20 0 0", &["1 64 20 0 0", "1 16 0 0 0"]),
         // Rows too few or too many, and waits.
-        ("1 65 0 0", &[]),
-        ("1 65 0 0", &["1 65 0 0"]),
-        ("1 65 0 0", &["1 64 20 0", "4 0 0 0", "1 16 0 0"]),
-        ("1 65 0 0", &["1 64 20 0", "1 16 0 0", "4 0 0 0"]),
-        ("4 10 0 0", &["4 9 0 0"]),
-        ("4 10 0 0", &["4 10 0 0", "4 10 0 0"]),
+        ("1 65 0 0 0", &[]),
+        ("1 65 0 0 0", &["1 65 0 0 0"]),
+        ("1 65 0 0 0", &["1 64 20 0 0", "4 0 0 0 0", "1 16 0 0 0"]),
+        ("1 65 0 0 0", &["1 64 20 0 0", "1 16 0 0 0", "4 0 0 0 0"]),
+        ("4 10 0 0 0", &["4 9 0 0 0"]),
+        ("4 10 0 0 0", &["4 10 0 0 0", "4 10 0 0 0"]),
     ];
     for (eight, four) in refused {
         assert!(joined(&[eight], four).is_err(), "{eight} and {four:?}");
     }
-    assert!(joined(&[], &["4 0 0 0"]).is_err());
+    assert!(joined(&[], &["4 0 0 0 0"]).is_err());
 }
 
 #[test]
 fn openings_that_do_not_join() {
     let opened = |eight: &str, four: &str| {
         let parting = Parting { event: 1, story: 2 };
-        let (eight, four) = (["4 1 0 0", eight], ["4 1 0 0", four]);
+        let (eight, four) = (["4 1 0 0 0", eight], ["4 1 0 0 0", four]);
         join(&parting, &table(&eight), &table(&four))
     };
-    assert_eq!(opened("0 63 0 0", "0 47 0 0"), Ok(0));
+    assert_eq!(opened("0 63 0 0 0", "0 47 0 0 0"), Ok(0));
     for (eight, four) in [
-        ("0 63 0 0", "0 63 0 0"),
-        ("0 47 0 0", "0 63 0 0"),
-        ("0 63 0 0", "0 46 0 0"),
-        ("0 63 0 0", "0 47 20 0"),
-        ("0 63 0 0", "0 47 0 1"),
-        ("0 63 0 0", "1 47 0 0"),
+        ("0 63 0 0 0", "0 63 0 0 0"),
+        ("0 47 0 0 0", "0 63 0 0 0"),
+        ("0 63 0 0 0", "0 46 0 0 0"),
+        ("0 63 0 0 0", "0 47 20 0 0"),
+        ("0 63 0 0 0", "0 47 0 1 0"),
+        ("0 63 0 0 0", "1 47 0 0 0"),
     ] {
         assert!(opened(eight, four).is_err(), "{eight} and {four}");
     }
     let parting = Parting { event: 0, story: 1 };
-    let whole = table(&["0 48 0 0"]);
+    let whole = table(&["0 48 0 0 0"]);
     for four in ["", "refused 9\n", HEADING] {
         assert!(join(&parting, &whole, four.as_bytes()).is_err());
         assert!(join(&parting, four.as_bytes(), four.as_bytes()).is_err());
     }
-    for row in ["2 0 32 0 0\n", "1 0 32 0\n", "1 0 32 0 0 0\n", "1 0 32 0 0"] {
+    for row in [
+        "2 0 32 0 0 0\n",
+        "1 0 32 0 0\n",
+        "1 0 32 0 0 0 0\n",
+        "1 0 32 0 0 0",
+    ] {
         let four = format!("{HEADING}{row}");
         assert!(join(&parting, &whole, four.as_bytes()).is_err(), "{row:?}");
     }
@@ -334,19 +367,19 @@ fn openings_that_do_not_join() {
 fn rows_that_do_not_join_are_told() {
     let told = |eight, four: &[&str]| joined(&[eight], four).unwrap_err();
     assert_eq!(
-        told("1 65 0 0", &["1 79 20 0", "1 16 20 0"]),
-        "eight lines: 2 1 65 0 0; four lines: 2 1 79 20 0, 3 1 16 20 0"
+        told("1 65 0 0 0", &["1 79 20 0 0", "1 16 20 0 0"]),
+        "eight lines: 2 1 65 0 0 0; four lines: 2 1 79 20 0 0, 3 1 16 20 0 0"
     );
     assert_eq!(
-        told("4 10 0 0", &[]),
-        "eight lines: 2 4 10 0 0; four lines: nothing"
+        told("4 10 0 0 0", &[]),
+        "eight lines: 2 4 10 0 0 0; four lines: nothing"
     );
     assert_eq!(
-        told("4 10 0 0", &["4 10 0 0", "2 0 20 0"]),
-        "four lines go on: 3 2 0 20 0"
+        told("4 10 0 0 0", &["4 10 0 0 0", "2 0 20 0 0"]),
+        "four lines go on: 3 2 0 20 0 0"
     );
     assert_eq!(
-        told("4 10 0 0", &["4 ten 0 0"]),
-        "no row 2: \"2 4 ten 0 0\\n\""
+        told("4 10 0 0 0", &["4 ten 0 0 0"]),
+        "no row 2: \"2 4 ten 0 0 0\\n\""
     );
 }

@@ -10,7 +10,7 @@ pub const LIST: &[Wrong] = &[
         name: "27-to-28",
         rules: Rules {
             step_up: |memory, two_lines, address| match (memory, two_lines, address) {
-                (Memory::Display, true, 0x27) => 0x28,
+                (Memory::Display, true, 0x27) => to_the_next(0x28),
                 _ => step_up(memory, two_lines, address),
             },
             ..PAPER
@@ -20,7 +20,7 @@ pub const LIST: &[Wrong] = &[
         name: "67-to-40",
         rules: Rules {
             step_up: |memory, two_lines, address| match (memory, two_lines, address) {
-                (Memory::Display, true, 0x67) => 0x40,
+                (Memory::Display, true, 0x67) => past_an_end(0x40),
                 _ => step_up(memory, two_lines, address),
             },
             ..PAPER
@@ -30,7 +30,7 @@ pub const LIST: &[Wrong] = &[
         name: "4f-to-50",
         rules: Rules {
             step_up: |memory, two_lines, address| match (memory, two_lines, address) {
-                (Memory::Display, false, 0x4F) => 0x50,
+                (Memory::Display, false, 0x4F) => to_the_next(0x50),
                 _ => step_up(memory, two_lines, address),
             },
             ..PAPER
@@ -40,7 +40,7 @@ pub const LIST: &[Wrong] = &[
         name: "40-down-to-3f",
         rules: Rules {
             step_down: |memory, two_lines, address| match (memory, two_lines, address) {
-                (Memory::Display, true, 0x40) => 0x3F,
+                (Memory::Display, true, 0x40) => to_the_next(0x3F),
                 _ => step_down(memory, two_lines, address),
             },
             ..PAPER
@@ -50,7 +50,7 @@ pub const LIST: &[Wrong] = &[
         name: "00-down-to-4f-with-two-lines",
         rules: Rules {
             step_down: |memory, two_lines, address| match (memory, two_lines, address) {
-                (Memory::Display, true, 0x00) => 0x4F,
+                (Memory::Display, true, 0x00) => past_an_end(0x4F),
                 _ => step_down(memory, two_lines, address),
             },
             ..PAPER
@@ -60,7 +60,8 @@ pub const LIST: &[Wrong] = &[
         name: "character-address-wraps-at-7f",
         rules: Rules {
             step_up: |memory, two_lines, address| match (memory, address) {
-                (Memory::Character, _) => (address + 1) % 0x80,
+                (Memory::Character, 0x7F) => past_an_end(0x00),
+                (Memory::Character, _) => to_the_next(address + 1),
                 _ => step_up(memory, two_lines, address),
             },
             ..PAPER

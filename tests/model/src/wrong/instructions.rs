@@ -170,7 +170,7 @@ pub const LIST: &[Wrong] = &[
         rules: Rules {
             move_by: |rules, part, byte| {
                 let reversed = if bit(byte, 3) { byte } else { byte ^ 0x04 };
-                move_by(rules, part, reversed);
+                move_by(rules, part, reversed)
             },
             ..PAPER
         },
@@ -179,9 +179,8 @@ pub const LIST: &[Wrong] = &[
         name: "step-in-display-memory-only",
         rules: Rules {
             move_by: |rules, part, byte| {
-                if bit(byte, 3) || part.memory == Memory::Display {
-                    move_by(rules, part, byte);
-                }
+                let moves = bit(byte, 3) || part.memory == Memory::Display;
+                moves && move_by(rules, part, byte)
             },
             ..PAPER
         },
@@ -190,9 +189,11 @@ pub const LIST: &[Wrong] = &[
         name: "display-move-steps-counter",
         rules: Rules {
             move_by: |rules, part, byte| {
-                move_by(rules, part, byte);
+                let wrap = move_by(rules, part, byte);
                 if bit(byte, 3) {
-                    step(rules, part, bit(byte, 2));
+                    step(rules, part, bit(byte, 2))
+                } else {
+                    wrap
                 }
             },
             ..PAPER
@@ -305,9 +306,8 @@ pub const LIST: &[Wrong] = &[
         name: "reads-step-up-only",
         rules: Rules {
             read_data: |rules, part| {
-                let byte = read_data(rules, part);
-                step_up_instead(rules, part);
-                byte
+                let outcome = read_data(rules, part);
+                step_up_instead(rules, part, outcome)
             },
             ..PAPER
         },
@@ -316,8 +316,11 @@ pub const LIST: &[Wrong] = &[
         name: "read-after-step",
         rules: Rules {
             read_data: |rules, part| {
-                read_data(rules, part);
-                *addressed(part)
+                let outcome = read_data(rules, part);
+                Outcome {
+                    value: *addressed(part),
+                    ..outcome
+                }
             },
             ..PAPER
         },
@@ -326,9 +329,9 @@ pub const LIST: &[Wrong] = &[
         name: "read-takes-no-ticks",
         rules: Rules {
             read_data: |rules, part| {
-                let byte = read_data(rules, part);
+                let outcome = read_data(rules, part);
                 part.busy = 0;
-                byte
+                outcome
             },
             ..PAPER
         },
@@ -337,8 +340,8 @@ pub const LIST: &[Wrong] = &[
         name: "writes-step-up-only",
         rules: Rules {
             write_data: |rules, part, byte| {
-                write_data(rules, part, byte);
-                step_up_instead(rules, part);
+                let outcome = write_data(rules, part, byte);
+                step_up_instead(rules, part, outcome)
             },
             ..PAPER
         },
@@ -350,7 +353,7 @@ pub const LIST: &[Wrong] = &[
                 if part.memory == Memory::Character && part.shift_on_write {
                     move_display(rules, part, part.up);
                 }
-                write_data(rules, part, byte);
+                write_data(rules, part, byte)
             },
             ..PAPER
         },
@@ -360,11 +363,12 @@ pub const LIST: &[Wrong] = &[
         rules: Rules {
             write_data: |rules, part, byte| {
                 let shift = part.shift;
-                write_data(rules, part, byte);
+                let outcome = write_data(rules, part, byte);
                 if part.shift != shift {
                     part.shift = shift;
                     move_display(rules, part, true);
                 }
+                outcome
             },
             ..PAPER
         },
@@ -377,7 +381,7 @@ pub const LIST: &[Wrong] = &[
                     Memory::Display => byte,
                     Memory::Character => byte & 0x1F,
                 };
-                write_data(rules, part, kept);
+                write_data(rules, part, kept)
             },
             ..PAPER
         },
@@ -409,9 +413,13 @@ pub const LIST: &[Wrong] = &[
 ];
 
 /// Turns a step down that was taken into a step up.
-fn step_up_instead(rules: &Rules, part: &mut Part) {
-    if !part.up {
-        step(rules, part, true);
-        step(rules, part, true);
+fn step_up_instead(rules: &Rules, part: &mut Part, outcome: Outcome) -> Outcome {
+    if part.up {
+        return outcome;
+    }
+    step(rules, part, true);
+    Outcome {
+        wrap: step(rules, part, true),
+        ..outcome
     }
 }

@@ -1,6 +1,7 @@
 //! Wrong models of the wiring: a story on four lines is then another than on eight, so that joining
 //! alone catches each of them.
 
+use super::wraps::unsaid;
 use super::Wrong;
 use crate::model::counter::*;
 use crate::model::halves::*;
@@ -413,23 +414,47 @@ pub const LIST: &[Wrong] = &[
             ..PAPER
         },
     },
+    Wrong {
+        name: "wrap-with-first-half",
+        rules: Rules {
+            first_half: first_half_with_wrap,
+            ..PAPER
+        },
+    },
+    Wrong {
+        name: "wrap-with-first-half-alone",
+        rules: Rules {
+            first_half: first_half_with_wrap,
+            second_half: |rules, part, half, bus| unsaid(second_half(rules, part, half, bus)),
+            ..PAPER
+        },
+    },
+    Wrong {
+        name: "no-wrap-on-four-lines",
+        rules: Rules {
+            second_half: |rules, part, half, bus| unsaid(second_half(rules, part, half, bus)),
+            ..PAPER
+        },
+    },
     on_four_lines!("any-address-taken", has_address: |_, _| true),
     on_four_lines!("display-stays-off", settings: |part, byte| settings(part, byte & 0x03)),
     on_four_lines!("no-shift-on-write", write_data: |rules, part, byte| {
         let shift = part.shift;
-        write_data(rules, part, byte);
+        let outcome = write_data(rules, part, byte);
         part.shift = shift;
+        outcome
     }),
     on_four_lines!("write-does-not-step", write_data: |rules, part, byte| {
         let address = part.address;
-        write_data(rules, part, byte);
+        let outcome = write_data(rules, part, byte);
         part.address = address;
+        outcome
     }),
     on_four_lines!("read-does-not-step", read_data: |rules, part| {
         let address = part.address;
-        let byte = read_data(rules, part);
+        let outcome = read_data(rules, part);
         part.address = address;
-        byte
+        outcome
     }),
     on_four_lines!("27-to-28"),
     on_four_lines!("shift-stops-at-0"),
@@ -442,6 +467,13 @@ pub const LIST: &[Wrong] = &[
     on_four_lines!("reads-move-display"),
     on_four_lines!("writes-step-up-only"),
     on_four_lines!("character-memory-holds-five-bits"),
+    on_four_lines!("no-wrap-downwards"),
+    on_four_lines!("no-wrap-by-data-read"),
+    on_four_lines!("no-wrap-by-cursor-move"),
+    on_four_lines!("wrap-by-home"),
+    on_four_lines!("wrap-by-display-address-00"),
+    on_four_lines!("wrap-3f-to-40-with-one-line"),
+    on_four_lines!("wrap-by-status-read-at-an-end"),
 ];
 
 fn awaits_first(part: &Part) -> bool {
@@ -464,6 +496,13 @@ fn first_half_of_status(rules: &Rules, part: &mut Part, bus: Transfer, kept: u8)
         value: outcome.value & kept,
         ..outcome
     }
+}
+
+/// It says what its own four lines would, followed by zeros.
+fn first_half_with_wrap(rules: &Rules, part: &mut Part, bus: Transfer) -> Outcome {
+    let wrap = whole(rules, &mut part.clone(), bus.of(bus.lines() & 0xF0)).wrap;
+    let outcome = first_half(rules, part, bus);
+    Outcome { wrap, ..outcome }
 }
 
 /// The lower lines are seen on the upper ones too.

@@ -2,7 +2,7 @@
 use Prim.Native.Nat.{ℕ}
 use borrow.Author.Needs.{needs}
 use borrow.Author.Tests.{not-true, not-false}
-use mathlib.Core.Bool.{true}
+use mathlib.Core.Bool.{true, false}
 use mathlib.Core.Path.{_≡_, _∙_, sym}
 use Rattle.condition.proofs.Tests.{holds}
 use Rattle.controller.specs.Memory.{displayAfter, characterAfter}
@@ -19,7 +19,7 @@ use Rattle.bus.proofs.turn.transferred.Tie as tie
 
 -- refused with 1, which leaves all as it is
 refused : (c : Controller) (k : Kind) (n : ℕ) → inRange (c .registers) ≡ true → refusedBusy (c .registers) k ≡ true
-    → toldWith (c .display) (c .character) (record { registers = c .registers; answer = Answer.Busy }) ≡ transferOf c k n
+    → toldWith (c .display) (c .character) (record { registers = c .registers; answer = Answer.Busy; wrap = false }) ≡ transferOf c k n
 unfolding transferOf resultFor displayAfter characterAfter
 refused c k n r b = rw (r, b)
 

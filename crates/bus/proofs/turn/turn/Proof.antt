@@ -2,7 +2,7 @@
 use Prim.Native.Nat.{ℕ}
 use borrow.Author.Needs.{needs}
 use lib.Dec.{T}
-use mathlib.Core.Bool.{true}
+use mathlib.Core.Bool.{true, false}
 use mathlib.Core.List.{List}
 use mathlib.Core.Path.{_≡_, _∙_, ap, subst⁻¹, sym}
 use Rattle.condition.proofs.Tests.{holds, is-true}
@@ -28,9 +28,9 @@ gave c t {met = met} u e p = (
 )
 
 waited-out : (c : Controller) (n : ℕ) {r : Registers} → inRange (c .registers) ≡ true → r ≡ waited (c .registers) n
-    → toldWith (c .display) (c .character) (record { registers = r; answer = Answer.Done 0 }) ≡ waitOf c n
+    → toldWith (c .display) (c .character) (record { registers = r; answer = Answer.Done 0; wrap = false }) ≡ waitOf c n
 waited-out c n u e =
-    ap (λ (x : Registers). toldWith (c .display) (c .character) (record { registers = x; answer = Answer.Done 0 })) e
+    ap (λ (x : Registers). toldWith (c .display) (c .character) (record { registers = x; answer = Answer.Done 0; wrap = false })) e
     ∙ sym (waited-told c n (holds _ u))
 
 enum-known-event : tie.Need-enum-known-event
@@ -57,7 +57,7 @@ unfolding toldBy
 returns-2 c =
     let given = c .before .before in
     let start = given .before .before in
-    gave (with (start .args .display .now) (start .args .character .now) (start .args .registers)) (record { registers = c .waited .result; answer = Answer.Done 0 }) (start .pre) (given .event2 .given .1)
+    gave (with (start .args .display .now) (start .args .character .now) (start .args .registers)) (record { registers = c .waited .result; answer = Answer.Done 0; wrap = false }) (start .pre) (given .event2 .given .1)
     (waited-out (with (start .args .display .now) (start .args .character .now) (start .args .registers)) _ (start .pre) (c .waited .ensures))
 
 pub turn-spec : {M : Type 1} → statement M

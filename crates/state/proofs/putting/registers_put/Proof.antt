@@ -1,7 +1,7 @@
 -- Each byte by its field; the flags by their law.
 use borrow.Author.Needs.{needs}
+use Rattle.condition.proofs.Flag.{flag-number}
 use Rattle.state.specs.State.{registersPut}
-use Rattle.state.proofs.Promise.{flag-number}
 use Rattle.state.proofs.putting.registers_put.Statement.{statement}
 use Rattle.state.proofs.putting.registers_put.Tie as tie
 

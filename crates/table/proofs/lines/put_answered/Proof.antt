@@ -1,5 +1,5 @@
 -- The invariant: each line so far had its room, and the lines of the events from a place on are still to be put.
-use Prim.Native.Nat.{_+_, _*_, _/_, _%_, _-_, _≤_}
+use Prim.Native.Nat.{_+_, _*_, _%_, _-_, _≤_}
 use borrow.Author.Needs.{needs}
 use lib.ListN.{length, drop}
 use mathlib.Core.Path.{_≡_, refl}
@@ -13,25 +13,24 @@ use Rattle.table.proofs.lines.put_answered.Statement.{statement}
 use Rattle.table.proofs.lines.put_answered.Tie as tie
 
 abbrev Inv-loop : tie.InvT-loop
-Inv-loop events answers place out₀ number₀ from₀ at₀ next₀ out number from at next =
+Inv-loop events answers place out₀ number₀ from₀ next₀ out number from next =
     (1 ≤ number)
     × (from + 3 ≡ number * 3)
-    × (at + 2 ≡ number * 2)
     × (length out ≡ length out₀)
     × (length events % 3 ≡ 0)
     × (length events ≤ 3 * mostEvents)
-    × (length events / 3 * 2 ≤ length answers)
+    × (length events ≤ length answers)
     × (next + lineBytes * (mostEvents + 1) ≤ length out + lineBytes * number)
-    × AllNarrow (drop from events) (drop at answers)
-    × Awaits (linesOf number (drop from events) (drop at answers)) next out (linesOf 1 events answers) place out₀
+    × AllNarrow (drop from events) (drop from answers)
+    × Awaits (linesOf number (drop from events) (drop from answers)) next out (linesOf 1 events answers) place out₀
 
 abbrev μ-loop : tie.MeasureT-loop
-μ-loop events answers place out₀ number₀ from₀ at₀ next₀ out number from at next = length events - from
+μ-loop events answers place out₀ number₀ from₀ next₀ out number from next = length events - from
 
 loop-holds : tie.Need-loop-holds Inv-loop μ-loop
 loop-holds c =
     let given = c .before .before .before .pre in
-    (omega arith, refl, refl, refl, given .0 .whole, given .0 .few, given .0 .answered, omega arith, given .0 .narrow, awaits-all _ _ _)
+    (omega arith, refl, refl, given .0 .whole, given .0 .few, given .0 .answered, omega arith, given .0 .narrow, awaits-all _ _ _)
 
 add-word : tie.Need-add-word Inv-loop μ-loop
 add-word c = omega arith
@@ -60,13 +59,20 @@ add-put-line c = omega arith
 shared-slice-read-put-line-3 : tie.Need-shared-slice-read-put-line-3 Inv-loop μ-loop
 shared-slice-read-put-line-3 c = omega arith
 
+add-put-line-2 : tie.Need-add-put-line-2 Inv-loop μ-loop
+add-put-line-2 c = omega arith
+
+shared-slice-read-put-line-4 : tie.Need-shared-slice-read-put-line-4 Inv-loop μ-loop
+shared-slice-read-put-line-4 c = omega arith
+
 put-line-requires : tie.Need-put-line-requires Inv-loop μ-loop
 put-line-requires c κs =
-    let word = c .before .before .before .before in
+    let read = c .before .before in
+    let word = read .before .before .before in
     let at-loop = word .before .before .before .before in
     let start = at-loop .before .before .before .before in
-    let narrow = narrow-on (start .args .events .now) (start .args .answers .now) (at-loop .loop .from) (at-loop .loop .at) (at-loop .loop .inv .8) (omega arith) in
-    (record { four = omega arith; one = narrow .0; two = narrow .1 }, omega arith)
+    let narrow = narrow-on (start .args .events .now) (start .args .answers .now) (at-loop .loop .from) (omega arith) (omega arith) (at-loop .loop .inv .7) in
+    (record { four = omega arith; one = narrow .0; two = narrow .1; last = narrow .2 }, omega arith)
 
 add-number : tie.Need-add-number Inv-loop μ-loop
 add-number c = omega arith
@@ -74,17 +80,14 @@ add-number c = omega arith
 add-from : tie.Need-add-from Inv-loop μ-loop
 add-from c = omega arith
 
-add-at : tie.Need-add-at Inv-loop μ-loop
-add-at c = omega arith
-
 loop-less : tie.Need-loop-less Inv-loop μ-loop
 loop-less c = omega arith
 
 loop-again : tie.Need-loop-again Inv-loop μ-loop
 loop-again c =
     let put = c .before .before in
-    let read = put .before .before .before .before in
-    let word = read .before in
+    let read = put .before .before .before in
+    let word = read .before .before .before in
     let at-loop = word .before .before .before .before in
     let start = at-loop .before .before .before .before in
     let inv = at-loop .loop .inv in
@@ -92,20 +95,19 @@ loop-again c =
       omega arith,
       omega arith,
       omega arith,
-      omega arith,
+      inv .3,
       inv .4,
       inv .5,
-      inv .6,
       omega arith,
-      narrow-on (start .args .events .now) (start .args .answers .now) (at-loop .loop .from) (at-loop .loop .at) (inv .8) (omega arith) .2,
-      lines-turn (start .args .events .now) (start .args .answers .now) (at-loop .loop .from) (at-loop .loop .at) _ _ _ _ _ _ (inv .9) (omega arith) (omega arith) _ _ line,
+      narrow-on (start .args .events .now) (start .args .answers .now) (at-loop .loop .from) (omega arith) (omega arith) (inv .7) .3,
+      lines-turn (start .args .events .now) (start .args .answers .now) (at-loop .loop .from) (omega arith) (omega arith) _ _ _ _ _ _ (inv .8) (omega arith) _ _ line,
     )
 
 same-length : tie.Need-same-length Inv-loop μ-loop
-same-length c = c .before .loop .inv .3
+same-length c = c .before .loop .inv .2
 
 returns : tie.Need-returns Inv-loop μ-loop
-returns c = lines-end _ _ _ _ _ _ _ _ _ (c .loop-test .left) (c .before .loop .inv .9)
+returns c = lines-end _ _ _ _ _ _ _ _ _ (c .loop-test .left) (c .before .loop .inv .8)
 
 pub put-answered-spec : {M : Type 1} → statement M
 put-answered-spec =
@@ -123,10 +125,11 @@ put-answered-spec =
     shared-slice-read-put-line-2
     add-put-line
     shared-slice-read-put-line-3
+    add-put-line-2
+    shared-slice-read-put-line-4
     put-line-requires
     add-number
     add-from
-    add-at
     loop-less
     loop-again
     same-length

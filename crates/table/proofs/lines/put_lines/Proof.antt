@@ -51,7 +51,7 @@ put-answered-requires : tie.Need-put-answered-requires
 put-answered-requires c κs =
     let ran = c .before .before .before .before in
     let started = ran .before .before .before in
-    let size : length (ran .run-events .last .1 .1 .0) ≡ 2 * mostEvents = search needs in
+    let size : length (ran .run-events .last .1 .1 .0) ≡ 3 * mostEvents = search needs in
     (answered-printable _ (started .before .before .before .pre .0) _ (started .started .ensures) _ _ _ size (ran .run-events .ensures), omega arith)
 
 same-length : tie.Need-same-length
@@ -63,7 +63,7 @@ returns c =
     let lent = put .before in
     let ran = lent .before .before .before .before in
     let started = ran .before .before .before in
-    let size : length (ran .run-events .last .1 .1 .0) ≡ 2 * mostEvents = search needs in
+    let size : length (ran .run-events .last .1 .1 .0) ≡ 3 * mostEvents = search needs in
     rw (answered-lines _ (started .before .before .before .pre .0) _ (started .started .ensures) _ _ _ size (ran .run-events .ensures)) at (put .put-answered .ensures)
 
 pub put-lines-spec : {M : Type 1} → statement M

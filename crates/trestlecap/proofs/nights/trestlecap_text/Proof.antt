@@ -1,9 +1,8 @@
 -- Bytes that hold no controller are 16; the call is made of the one that they hold, and what it leaves put back.
 use borrow.Author.Needs.{needs}
-use mathlib.Core.Path.{_∙_}
 use Rattle.state.proofs.Lengths.{taken-length}
-use Rattle.trestlecap.proofs.Held.{held, none-held, sixteen, none-on, kept-on}
-use Rattle.trestlecap.proofs.Refused.{refused-call}
+use Rattle.trestlecap.proofs.Held.{held, none-held, sixteen}
+use Rattle.trestlecap.proofs.Made.{none-called, held-called}
 use Rattle.trestlecap.proofs.nights.trestlecap_text.Statement.{statement}
 use Rattle.trestlecap.proofs.nights.trestlecap_text.Tie as tie
 
@@ -19,20 +18,15 @@ same-length c = search needs
 returns : tie.Need-returns
 returns c =
     let numbered = c .before in
-    let took = numbered .before in
-    let both = none-on _ _ _ _ (none-held _ _ (took .take .ensures) _ (numbered .number .ensures) (c .if1 .taken)) (sixteen _ _ (took .take .ensures) _ (numbered .number .ensures) (c .if1 .taken)) in
-    record { number = both .0; kept = both .1 }
+    let took = numbered .before .take .ensures in
+    none-called _ _ _ _ _ (none-held _ _ took _ (numbered .number .ensures) (c .if1 .taken)) (sixteen _ _ took _ (numbered .number .ensures) (c .if1 .taken))
 
 text-requires : tie.Need-text-requires
 text-requires c κs = search needs
 
-number-requires-2 : tie.Need-number-requires-2
-number-requires-2 c κs = search needs
-
-keep-requires : tie.Need-keep-requires
-keep-requires c κs =
-    let called = c .before .before in
-    let tested = called .before in
+made-requires : tie.Need-made-requires
+made-requires c κs =
+    let tested = c .before .before .before in
     let numbered = tested .before in
     taken-length _ _ (held _ _ (numbered .before .take .ensures) _ (numbered .number .ensures) (tested .if1 .left))
 
@@ -41,14 +35,12 @@ same-length-2 c = search needs
 
 returns-2 : tie.Need-returns-2
 returns-2 c =
-    let kept = c .before .before in
-    let told = kept .before .before in
-    let called = told .before in
+    let made = c .before .before in
+    let called = made .before .before .before in
     let tested = called .before in
     let numbered = tested .before in
     let there = held _ _ (numbered .before .take .ensures) _ (numbered .number .ensures) (tested .if1 .left) in
-    let both = kept-on _ _ (refused-call _ _) _ _ there _ _ (told .number2 .ensures ∙ called .text .ensures .number) (called .text .ensures .controller) _ _ (kept .keep .ensures) in
-    record { number = both .0; kept = both .1 }
+    held-called _ _ _ _ _ there _ (called .text .ensures) _ _ _ (made .made .ensures)
 
 pub trestlecap-text-spec : {M : Type 1} → statement M
 trestlecap-text-spec =
@@ -59,7 +51,6 @@ trestlecap-text-spec =
     same-length
     returns
     text-requires
-    number-requires-2
-    keep-requires
+    made-requires
     same-length-2
     returns-2)
