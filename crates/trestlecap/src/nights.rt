@@ -9,9 +9,9 @@ ghost use Rattle.trestlecap.specs.Contracts.{Made};
 use super::keeping::keep;
 use bedside::Night;
 use bedside::Outcome;
-use bedside::log_night;
 use bedside::look_up;
-use bedside::text;
+use bedside::make;
+use calls::Call;
 use state::take;
 
 // What a call leaves is put back, and its wrap said, unless it was refused; its number is handed on.
@@ -28,6 +28,19 @@ fn made(outcome: Outcome, state: &mut [u8], wrap: &mut u8) -> u8
     keep(0, outcome.controller, state)
 }
 
+// A text or a night logged, of the controller that the bytes hold.
+fn call(state: &mut [u8], call: Call, characters: &[u8], wrap: &mut u8) -> u8
+    ensures { λ r. ⌜ MakingCall (now (state .entry)) call (now (characters .entry)) (now (wrap .entry)) r (now (state .exit)) (now (wrap .exit)) ⌝ }
+{
+    let taken = take(state);
+    let answer = taken.answer;
+    let refused = answer.number();
+    if refused != 0 {
+        return refused;
+    }
+    made(make(taken.controller, call, characters), state, wrap)
+}
+
 #[no_mangle]
 pub extern "C" fn trestlecap_text(
     state: &mut [u8],
@@ -37,13 +50,7 @@ pub extern "C" fn trestlecap_text(
 ) -> u8
     ensures { λ r. ⌜ MakingCall (now (state .entry)) (Call.Text line) (now (characters .entry)) (now (wrap .entry)) r (now (state .exit)) (now (wrap .exit)) ⌝ }
 {
-    let taken = take(state);
-    let answer = taken.answer;
-    let refused = answer.number();
-    if refused != 0 {
-        return refused;
-    }
-    made(text(taken.controller, line, characters), state, wrap)
+    call(state, Call::Text(line), characters, wrap)
 }
 
 #[no_mangle]
@@ -55,13 +62,7 @@ pub extern "C" fn trestlecap_log_night(
 ) -> u8
     ensures { λ r. ⌜ MakingCall (now (state .entry)) (Call.Log night quarters) [] (now (wrap .entry)) r (now (state .exit)) (now (wrap .exit)) ⌝ }
 {
-    let taken = take(state);
-    let answer = taken.answer;
-    let refused = answer.number();
-    if refused != 0 {
-        return refused;
-    }
-    made(log_night(taken.controller, night, quarters), state, wrap)
+    call(state, Call::Log(night, quarters), b"", wrap)
 }
 
 #[no_mangle]

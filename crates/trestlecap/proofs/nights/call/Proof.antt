@@ -3,8 +3,8 @@ use borrow.Author.Needs.{needs}
 use Rattle.state.proofs.Lengths.{taken-length}
 use Rattle.trestlecap.proofs.Held.{held, none-held, sixteen}
 use Rattle.trestlecap.proofs.Made.{none-called, held-called}
-use Rattle.trestlecap.proofs.nights.trestlecap_text.Statement.{statement}
-use Rattle.trestlecap.proofs.nights.trestlecap_text.Tie as tie
+use Rattle.trestlecap.proofs.nights.call.Statement.{statement}
+use Rattle.trestlecap.proofs.nights.call.Tie as tie
 
 take-requires : tie.Need-take-requires
 take-requires c κs = search needs
@@ -21,8 +21,8 @@ returns c =
     let took = numbered .before .take .ensures in
     none-called _ _ _ _ _ (none-held _ _ took _ (numbered .number .ensures) (c .if1 .taken)) (sixteen _ _ took _ (numbered .number .ensures) (c .if1 .taken))
 
-text-requires : tie.Need-text-requires
-text-requires c κs = search needs
+make-requires : tie.Need-make-requires
+make-requires c κs = search needs
 
 made-requires : tie.Need-made-requires
 made-requires c κs =
@@ -40,17 +40,17 @@ returns-2 c =
     let tested = called .before in
     let numbered = tested .before in
     let there = held _ _ (numbered .before .take .ensures) _ (numbered .number .ensures) (tested .if1 .left) in
-    held-called _ _ _ _ _ there _ (called .text .ensures) _ _ _ (made .made .ensures)
+    held-called _ _ _ _ _ there _ (called .make .ensures) _ _ _ (made .made .ensures)
 
-pub trestlecap-text-spec : {M : Type 1} → statement M
-trestlecap-text-spec =
+pub call-spec : {M : Type 1} → statement M
+call-spec =
     tie.close
     (tie.spec
     take-requires
     number-requires
     same-length
     returns
-    text-requires
+    make-requires
     made-requires
     same-length-2
     returns-2)
