@@ -8,9 +8,9 @@ use mathlib.Core.Path.{_≡_, _∙_, ap, refl, subst, subst⁻¹}
 use native.Mathlib.Omega.{arith}
 use Rattle.condition.proofs.Tests.{split}
 use Rattle.controller.proofs.Ranged.{facts, test}
-use Rattle.controller.specs.Answers.{saying, wrapping}
+use Rattle.controller.specs.Answers.{saying}
 use Rattle.controller.specs.Memory.{Change, byteAt, storeAt, displayAfter, characterAfter}
-use Rattle.controller.specs.Part.{awaiting, passesEnd, with, longest, inRange, freshWith, switchedOn}
+use Rattle.controller.specs.Part.{awaiting, with, longest, inRange, freshWith, switchedOn}
 use Rattle.controller.specs.Result.{Result}
 use Rattle.controller.specs.Told.{Told, addressed, carried}
 use Rattle.controller.specs.declared.Controller.{Controller}
@@ -33,7 +33,7 @@ use Rattle.step.specs.Step.{firstHalf, secondHalf, onFour}
 use Rattle.bus.specs.Events.{toldBy, afterEvents, waits}
 use Rattle.bus.specs.Refusals.{byteOf}
 use Rattle.bus.specs.Transfer.{transferOf, waitOf}
-use Rattle.bus.specs.Written.{Whole, ReachedWhole, byteIn, pointed, Wrote, WriteIsRead}
+use Rattle.bus.specs.Written.{Whole, ReachedWhole, byteIn, pointed, readBack, Wrote, WriteIsRead}
 use Rattle.bus.proofs.Busy.{idle-free}
 use Rattle.bus.proofs.Free.{withBusy, waits-only-busy, transfer-steps, eight-acts, four-acts}
 use Rattle.bus.proofs.Outcomes.{of-step, of-transfer}
@@ -102,7 +102,7 @@ module _ (c : Controller) (n : ℕ) where
 
 -- ---- a data read of a part that is free, and where no half waits
 module _ (c : Controller) (t : T (inRange (c .registers))) (free : c .registers .busy ≡ 0) (no-half : c .registers .half ≡ Half.Nothing) where
-  reads-on-eight : (n : ℕ) → c .registers .bus ≡ Eight → transferOf c DataRead n .said ≡ wrapping (passesEnd (c .registers .entry .up) (c .registers)) (saying 0 (addressed c))
+  reads-on-eight : (n : ℕ) → c .registers .bus ≡ Eight → transferOf c DataRead n .said ≡ readBack c (addressed c)
   unfolding act readData readOf
   reads-on-eight n e =
       ap (λ (x : Told). x .said) (transfer-steps c DataRead n t)
@@ -119,7 +119,7 @@ module _ (c : Controller) (t : T (inRange (c .registers))) (free : c .registers 
       transfer-steps c DataRead n t
       ∙ ap (carried c) (four-acts (c .registers) DataRead n (addressed c) (idle-free (c .registers) DataRead free) Half.Nothing e no-half)
 
-  second-read : (n : ℕ) → c .registers .bus ≡ Four → transferOf halfway DataRead n .said ≡ wrapping (passesEnd (c .registers .entry .up) (c .registers)) (saying 0 (lower (addressed c) * 16))
+  second-read : (n : ℕ) → c .registers .bus ≡ Four → transferOf halfway DataRead n .said ≡ readBack c (lower (addressed c) * 16)
   unfolding halfway onFour secondHalf act readData readOf answered toldBy
   second-read n e =
       let u : T (inRange (halfway .registers)) = subst (λ (x : Told). T (inRange (x .controller .registers))) (first-read 0 e) (range-kept (Transfer DataRead 0) c t) in
@@ -165,7 +165,7 @@ module _ (c : Controller) (n : ℕ) (w : Whole c) (t : T (inRange (c .registers)
       read-on-eight = λ ns m z e.
           ap (λ (x : Controller). transferOf x DataRead m .said) (waited-for ns z)
           ∙ reads-on-eight again again-in-range refl refl m e
-          ∙ ap (λ (v : ℕ). wrapping (passesEnd (c .registers .entry .up) (c .registers)) (saying 0 v)) is-stored;
+          ∙ ap (readBack c) is-stored;
       read-on-four = λ ns m m′ z e. (
         ap (λ (x : Controller). transferOf x DataRead m .said) (waited-for ns z)
             ∙ ap (λ (x : Told). x .said) (first-read again again-in-range refl refl m e)
@@ -173,7 +173,7 @@ module _ (c : Controller) (n : ℕ) (w : Whole c) (t : T (inRange (c .registers)
         ap (λ (x : Controller). transferOf (transferOf x DataRead m .controller) DataRead m′ .said) (waited-for ns z)
             ∙ ap (λ (x : Told). transferOf (x .controller) DataRead m′ .said) (first-read again again-in-range refl refl m e)
             ∙ second-read again again-in-range refl refl m′ e
-            ∙ ap (λ (v : ℕ). wrapping (passesEnd (c .registers .entry .up) (c .registers)) (saying 0 (lower v * 16))) is-stored,
+            ∙ ap (λ (v : ℕ). readBack c (lower v * 16)) is-stored,
       );
     }
 

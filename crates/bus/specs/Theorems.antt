@@ -132,7 +132,7 @@ stepsUp DataWrite r n = r .entry .up
 stepsUp StatusRead r n = r .entry .up
 stepsUp DataRead r n = r .entry .up
 
--- it is answered 0, steps the counter, and that step passes an end
+-- an event that is answered 0, steps the counter, and that step passes an end
 unfoldable pub passes : Event → Controller → Bool
 passes (Transfer k n) c =
     eqb (firstOf (transferRules c k n) 0) 0

@@ -10,11 +10,11 @@ pub record Said : Type 0 where
   pub value : ℕ
   pub wrap : Bool
 
--- which is no,
+-- this number and this value, and no
 abbrev pub saying : (number value : ℕ) → Said
 saying n v = record { number = n; value = v; wrap = false }
 
--- unless it is said
+-- the same number and value, saying w of the end
 abbrev pub wrapping : Bool → Said → Said
 wrapping w s = record { number = s .number; value = s .value; wrap = w }
 

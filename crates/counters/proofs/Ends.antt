@@ -6,7 +6,7 @@ use mathlib.Core.Bool.{Bool, true, false, _&&_, and-false}
 use mathlib.Core.Path.{_≡_, _∙_, ap, refl}
 use Rattle.condition.proofs.Tests.{holds}
 
--- a step leads from `from` to `to`; is n the one, and the address that it leads to the other?
+-- where a step leads from `from` to `to`, "n is the one and steps to the other" says no more than "n is the one"
 module _ (step : ℕ → ℕ) (n from to : ℕ) (leads : step from ≡ to) where
   there : eqb n from ≡ true → eqb (step n) to ≡ true
   there e = eq-eqb (step n) to (ap step (eqb→eq n from (holds (eqb n from) e)) ∙ leads)

@@ -30,7 +30,7 @@ decoded-by-range b = record {
   display = λ l. simp (le-ltb b 0x01 (omega arith), le-ltb b 0x02 (omega arith), le-ltb b 0x04 (omega arith), le-ltb b 0x08 (omega arith), le-ltb b 0x10 (omega arith), le-ltb b 0x20 (omega arith), le-ltb b 0x40 (omega arith), le-ltb b 0x80 l);
 }
 
--- ---- a fact of each instruction that a byte can be is a fact of the byte's own; what precedes the moves, and what follows them, is known to
+-- ---- a fact of each instruction that a byte can be is a fact of the byte's own; the cases before and behind the moves know that they are
 pub record Each (P : Instruction → Type 0) (b : ℕ) : Type 0 where
   pub nothing : b < 0x10 → P Nothing
   pub clear : b ≡ 0x01 → P Clear

@@ -19,7 +19,7 @@ use Rattle.run.specs.Run.{answerBytes}
 abbrev pub roomFor : (events : List ℕ) → ℕ
 roomFor events = 3 * (length events / 3)
 
--- "16 …; 6 output below …" three bytes "for each whole event; 9 as for records; in that order"
+-- "16 …; 6 output below two bytes" (8/12: three) "for each whole event; 9 as for records; in that order"
 abbrev pub refusals : Registers → (events : List ℕ) (room : ℕ) → List Rule
 refusals r events room = (16 when not (inRange r)) ∷ (6 when ltb room (roomFor events)) ∷ (9 when badEvents events) ∷ []
 

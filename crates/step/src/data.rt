@@ -10,7 +10,7 @@ use counters::counter::Counter;
 use counters::shift::Shift;
 
 // A write to display memory moves the display where shift on write is set.
-fn shift_after(registers: Registers) -> Shift
+pub(crate) fn shift_after(registers: Registers) -> Shift
     ensures { λ r. ⌜ r ≡ shiftAfter (registers .counter) registers ⌝ }
 {
     let counter = registers.counter;
@@ -27,15 +27,15 @@ fn shift_after(registers: Registers) -> Shift
     }
 }
 
-// The registers once the counter has stepped, and whether it passed an end.
+// The registers behind data, and whether the counter passed an end.
 pub struct Stepped {
     pub registers: Registers,
     pub wrap: bool,
 }
 
-// Behind a data write.
-pub(crate) fn written(registers: Registers) -> Stepped
-    ensures { λ r. ⌜ r ≡ steppedTo (shiftAfter (registers .counter) registers) registers ⌝ }
+// The counter stepped in the set direction, with the shift that the display then has.
+pub(crate) fn stepped_to(registers: Registers, shift: Shift) -> Stepped
+    ensures { λ r. ⌜ r ≡ steppedTo shift registers ⌝ }
 {
     let entry = registers.entry;
     let step = registers.counter_stepped(entry.up);
@@ -43,24 +43,7 @@ pub(crate) fn written(registers: Registers) -> Stepped
     Stepped {
         registers: Registers {
             counter,
-            shift: shift_after(registers),
-            busy: Controller::SHORT,
-            ..registers
-        },
-        wrap: step.wrap,
-    }
-}
-
-// Behind a data read.
-pub(crate) fn read(registers: Registers) -> Stepped
-    ensures { λ r. ⌜ r ≡ steppedTo (registers .shift) registers ⌝ }
-{
-    let entry = registers.entry;
-    let step = registers.counter_stepped(entry.up);
-    let counter = step.counter;
-    Stepped {
-        registers: Registers {
-            counter,
+            shift,
             busy: Controller::SHORT,
             ..registers
         },

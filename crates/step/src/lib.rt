@@ -45,7 +45,7 @@ fn act(
         }
         Kind::DataWrite => {
             memory::store(display, character, registers, byte);
-            let stepped = data::written(registers);
+            let stepped = data::stepped_to(registers, data::shift_after(registers));
             after = stepped.registers;
             wrap = stepped.wrap;
         }
@@ -55,7 +55,7 @@ fn act(
         Kind::DataRead => {
             let read = memory::addressed(&*display, &*character, registers);
             answer = Answer::Done(answered(bus, read));
-            let stepped = data::read(registers);
+            let stepped = data::stepped_to(registers, registers.shift);
             after = stepped.registers;
             wrap = stepped.wrap;
         }

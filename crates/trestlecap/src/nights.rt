@@ -29,7 +29,7 @@ fn made(outcome: Outcome, state: &mut [u8], wrap: &mut u8) -> u8
 }
 
 // A text or a night logged, of the controller that the bytes hold.
-fn call(state: &mut [u8], call: Call, characters: &[u8], wrap: &mut u8) -> u8
+fn panel_call(state: &mut [u8], call: Call, characters: &[u8], wrap: &mut u8) -> u8
     ensures { λ r. ⌜ MakingCall (now (state .entry)) call (now (characters .entry)) (now (wrap .entry)) r (now (state .exit)) (now (wrap .exit)) ⌝ }
 {
     let taken = take(state);
@@ -50,7 +50,7 @@ pub extern "C" fn trestlecap_text(
 ) -> u8
     ensures { λ r. ⌜ MakingCall (now (state .entry)) (Call.Text line) (now (characters .entry)) (now (wrap .entry)) r (now (state .exit)) (now (wrap .exit)) ⌝ }
 {
-    call(state, Call::Text(line), characters, wrap)
+    panel_call(state, Call::Text(line), characters, wrap)
 }
 
 #[no_mangle]
@@ -62,7 +62,7 @@ pub extern "C" fn trestlecap_log_night(
 ) -> u8
     ensures { λ r. ⌜ MakingCall (now (state .entry)) (Call.Log night quarters) [] (now (wrap .entry)) r (now (state .exit)) (now (wrap .exit)) ⌝ }
 {
-    call(state, Call::Log(night, quarters), b"", wrap)
+    panel_call(state, Call::Log(night, quarters), b"", wrap)
 }
 
 #[no_mangle]

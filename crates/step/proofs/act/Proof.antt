@@ -24,8 +24,11 @@ enum-told-2 c = search needs
 store-requires : tie.Need-store-requires
 store-requires c κs = counter-exists _ (c .before .before .before .before .pre .0)
 
-written-requires : tie.Need-written-requires
-written-requires c κs = search needs
+shift-after-requires : tie.Need-shift-after-requires
+shift-after-requires c κs = search needs
+
+stepped-to-requires : tie.Need-stepped-to-requires
+stepped-to-requires c κs = search needs
 
 enum-told-3 : tie.Need-enum-told-3
 enum-told-3 c = search needs
@@ -45,8 +48,8 @@ addressed-requires c κs = counter-exists _ (c .before .before .before .before .
 answered-requires-2 : tie.Need-answered-requires-2
 answered-requires-2 c κs = search needs
 
-read-requires : tie.Need-read-requires
-read-requires c κs = search needs
+stepped-to-requires-2 : tie.Need-stepped-to-requires-2
+stepped-to-requires-2 c κs = search needs
 
 returns : tie.Need-returns
 returns c =
@@ -58,10 +61,11 @@ returns c =
 
 returns-2 : tie.Need-returns-2
 returns-2 c =
-    let stored = c .before .before in
+    let shifted = c .before .before in
+    let stored = shifted .before in
     let told = stored .before .before .before in
     let start = told .before .before in
-    write-acts (with (start .args .display .now) (start .args .character .now) (start .args .registers)) (start .args .byte) (start .pre .1) (told .enum-told2 .given .1) (stored .store .ensures) (c .before .written .ensures)
+    write-acts (with (start .args .display .now) (start .args .character .now) (start .args .registers)) (start .args .byte) (start .pre .1) (told .enum-told2 .given .1) (stored .store .ensures) (rw (shifted .shift-after .ensures) at (c .before .stepped-to .ensures))
 
 returns-3 : tie.Need-returns-3
 returns-3 c =
@@ -74,7 +78,7 @@ returns-4 c =
     let addressed = read .before .before in
     let told = addressed .before .before .before in
     let start = told .before .before in
-    read-acts (with (start .args .display .now) (start .args .character .now) (start .args .registers)) (start .args .byte) (start .pre .1) (told .enum-told4 .given .1) (rw (read .before .answered2 .ensures, addressed .addressed .ensures)) (read .read .ensures)
+    read-acts (with (start .args .display .now) (start .args .character .now) (start .args .registers)) (start .args .byte) (start .pre .1) (told .enum-told4 .given .1) (rw (read .before .answered2 .ensures, addressed .addressed .ensures)) (read .stepped-to2 .ensures)
 
 pub act-spec : {M : Type 1} → statement M
 act-spec =
@@ -86,14 +90,15 @@ act-spec =
     obey-requires
     enum-told-2
     store-requires
-    written-requires
+    shift-after-requires
+    stepped-to-requires
     enum-told-3
     status-requires
     answered-requires
     enum-told-4
     addressed-requires
     answered-requires-2
-    read-requires
+    stepped-to-requires-2
     returns
     returns-2
     returns-3

@@ -3,8 +3,8 @@ use borrow.Author.Needs.{needs}
 use Rattle.state.proofs.Lengths.{taken-length}
 use Rattle.trestlecap.proofs.Held.{held, none-held, sixteen}
 use Rattle.trestlecap.proofs.Made.{none-called, held-called}
-use Rattle.trestlecap.proofs.nights.call.Statement.{statement}
-use Rattle.trestlecap.proofs.nights.call.Tie as tie
+use Rattle.trestlecap.proofs.nights.panel_call.Statement.{statement}
+use Rattle.trestlecap.proofs.nights.panel_call.Tie as tie
 
 take-requires : tie.Need-take-requires
 take-requires c κs = search needs
@@ -42,8 +42,8 @@ returns-2 c =
     let there = held _ _ (numbered .before .take .ensures) _ (numbered .number .ensures) (tested .if1 .left) in
     held-called _ _ _ _ _ there _ (called .make .ensures) _ _ _ (made .made .ensures)
 
-pub call-spec : {M : Type 1} → statement M
-call-spec =
+pub panel-call-spec : {M : Type 1} → statement M
+panel-call-spec =
     tie.close
     (tie.spec
     take-requires
