@@ -1,4 +1,6 @@
 // The words that a program is started with: numbers in decimal, and words given letter by letter.
+#![tactic(auto)]
+
 mod number;
 mod word;
 

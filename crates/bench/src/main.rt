@@ -1,4 +1,6 @@
 // The bench program: one record from standard input, its table to standard output.
+#![tactic(auto)]
+
 use libc::{STDIN_FILENO, STDOUT_FILENO};
 use table::table;
 

@@ -1,4 +1,6 @@
 // What the benchmark calls from C: the picture of the part that a record leaves.
+#![tactic(auto)]
+
 ghost use Rattle.std.specs.Prelude.{◌≡◌};
 ghost use Rattle.benchmark_picture.specs.Drawn.{phase_of, Drawn};
 

@@ -1,4 +1,6 @@
 // The bias program: VDD, span and quarter or fifth as its words, the bias sheet to standard output.
+#![tactic(auto)]
+
 use libc::{STDERR_FILENO, STDOUT_FILENO};
 use sheet::{Asked, sheet};
 use voltages::Bias;

@@ -1,4 +1,6 @@
 // What tests/bias calls from C: the bias sheet, with numbers alone.
+#![tactic(auto)]
+
 ghost use Rattle.std.specs.Prelude.{◌≡◌};
 ghost use Rattle.bias_export.specs.Called.{bias_of, Called};
 

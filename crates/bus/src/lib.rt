@@ -1,4 +1,6 @@
 // The bus: transfers and waits, the only things that change a controller.
+#![tactic(auto)]
+
 ghost use Rattle.std.specs.Prelude.{◌≡◌};
 ghost use Rattle.bus.specs.Transfer.{told, transfer_of, wait_of};
 

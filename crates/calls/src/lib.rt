@@ -1,4 +1,6 @@
 // The panel's calls, and their events put into a lent buffer as a bench record holds them.
+#![tactic(auto)]
+
 ghost use Rattle.std.specs.Prelude.{◌+◌, ◌≤◌, length};
 ghost use Rattle.calls.specs.Promises.{PutsEvents, room_for, bytes_in, InCourse};
 ghost use Rattle.calls.specs.Events.{call_events};
@@ -13,7 +15,7 @@ use log_call::put_log_call;
 pub use nights::{LAST_NIGHT, MARK, figure_address, mark_address};
 use text_call::put_text_call;
 
-#[derive(Drop)]
+#[derive(Clone, Copy)]
 pub enum Call {
     // The line that the characters are written on.
     Text(u8),

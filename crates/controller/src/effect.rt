@@ -2,7 +2,7 @@
 use super::answer::Answer;
 use super::registers::Registers;
 
-#[derive(Drop)]
+#[derive(Clone, Copy)]
 pub struct Effect {
     pub registers: Registers,
     pub answer: Answer,

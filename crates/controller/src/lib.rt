@@ -1,4 +1,6 @@
 // The character controller: two memories and a handful of registers.
+#![tactic(auto)]
+
 ghost use Rattle.std.specs.Prelude.{◌≡◌};
 ghost use Rattle.controller.specs.Part.{switched_on};
 

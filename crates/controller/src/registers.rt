@@ -10,27 +10,27 @@ use counters::shift::Shift;
 use halves::{Half, LineCount};
 
 // N and F.
-#[derive(Drop)]
+#[derive(Clone, Copy)]
 pub struct Mode {
     pub lines: LineMode,
     pub tall: bool,
 }
 
 // The direction, and shift on write.
-#[derive(Drop)]
+#[derive(Clone, Copy)]
 pub struct Entry {
     pub up: bool,
     pub shifts: bool,
 }
 
-#[derive(Drop)]
+#[derive(Clone, Copy)]
 pub struct Lights {
     pub display: bool,
     pub cursor: bool,
     pub blink: bool,
 }
 
-#[derive(Drop)]
+#[derive(Clone, Copy)]
 pub struct Registers {
     pub counter: Counter,
     pub shift: Shift,

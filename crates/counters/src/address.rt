@@ -6,18 +6,19 @@ use super::LineMode;
 use super::wrap::{next, previous, wrapped};
 
 // An address of display memory, as the bus names it.
-#[derive(Drop)]
+#[derive(Clone, Copy)]
 pub struct DisplayAddress(pub u8);
 
 // An address of character memory, as the bus names it.
-#[derive(Drop)]
+#[derive(Clone, Copy)]
 pub struct CharacterAddress(pub u8);
 
 // A place among the 80 bytes of display storage.
-#[derive(Drop)]
+#[derive(Clone, Copy)]
 pub struct Cell(pub u8);
 
 impl DisplayAddress {
+    #[tactic(auto, unfolding(crate::specs::Address::has_display))]
     pub fn exists(self, mode: LineMode) -> bool
         ensures { result ≡ has_display mode self }
     {
@@ -28,6 +29,7 @@ impl DisplayAddress {
         }
     }
 
+    #[tactic(auto, unfolding(crate::specs::Address::cell_of))]
     pub fn cell(self, mode: LineMode) -> Cell
         ensures { result ≡ cell_of mode self }
     {
@@ -38,6 +40,7 @@ impl DisplayAddress {
         }
     }
 
+    #[tactic(auto, unfolding(crate::specs::Address::step_display))]
     pub(crate) fn step(self, mode: LineMode, up: bool) -> DisplayAddress
         ensures { result ≡ step_display mode up self }
     {
@@ -55,6 +58,7 @@ impl DisplayAddress {
     }
 
     // Whether the step from here passes an end.
+    #[tactic(auto, using(crate::proofs::Ends::passes_up, crate::proofs::Ends::passes_down), unfolding(crate::specs::Address::passes_display, crate::specs::Address::ends_display, crate::specs::Address::step_display, crate::specs::Wrap::next, crate::specs::Wrap::previous))]
     pub(crate) fn passes(self, mode: LineMode, up: bool) -> bool
         ensures { result ≡ passes_display mode up self }
     {
@@ -73,12 +77,14 @@ impl DisplayAddress {
 }
 
 // With two lines there is no address between 27 and 40.
+#[tactic(auto, unfolding(crate::specs::Address::step_display))]
 fn next_of_two(n: u8) -> u8
     ensures { result ≡ (step_display LineMode.Two true (display n)).0 }
 {
     if n == 0x27 { 0x40 } else { next(0x67, n) }
 }
 
+#[tactic(auto, unfolding(crate::specs::Address::step_display))]
 fn previous_of_two(n: u8) -> u8
     ensures { result ≡ (step_display LineMode.Two false (display n)).0 }
 {
@@ -86,18 +92,21 @@ fn previous_of_two(n: u8) -> u8
 }
 
 impl CharacterAddress {
+    #[tactic(auto, unfolding(crate::specs::Address::has_character))]
     pub(crate) fn exists(self) -> bool
         ensures { result ≡ has_character self }
     {
         self.0 <= 0x3f
     }
 
+    #[tactic(auto, unfolding(crate::specs::Address::step_character))]
     pub(crate) fn step(self, up: bool) -> CharacterAddress
         ensures { result ≡ step_character up self }
     {
         CharacterAddress(wrapped(up, 0x3f, self.0))
     }
     // Whether the step from here passes an end.
+    #[tactic(auto, using(crate::proofs::Ends::passes_up, crate::proofs::Ends::passes_down), unfolding(crate::specs::Address::passes_character, crate::specs::Address::ends_character, crate::specs::Address::step_character, crate::specs::Wrap::next, crate::specs::Wrap::previous))]
     pub(crate) fn passes(self, up: bool) -> bool
         ensures { result ≡ passes_character up self }
     {

@@ -1,4 +1,6 @@
 // Memories and counters: addresses on the bus, cells of storage, the counter and the shift, as the line mode orders them.
+#![tactic(auto)]
+
 ghost use Rattle.std.specs.Prelude.{◌≡◌};
 ghost use Rattle.counters.specs.Shift.{last_shift};
 
@@ -8,7 +10,7 @@ pub mod shift;
 mod wrap;
 
 // N: how many lines the screen has.
-#[derive(Drop)]
+#[derive(Clone, Copy)]
 pub enum LineMode {
     One,
     Two,
@@ -16,6 +18,7 @@ pub enum LineMode {
 
 impl LineMode {
     // The largest shift.
+    #[tactic(auto, unfolding(crate::specs::Shift::last_shift))]
     pub(crate) fn last_shift(self) -> u8
         ensures { result ≡ last_shift self }
     {

@@ -5,10 +5,11 @@ ghost use Rattle.counters.specs.Shift.{has_shift, move_of};
 use super::LineMode;
 use super::wrap::wrapped;
 
-#[derive(Drop)]
+#[derive(Clone, Copy)]
 pub struct Shift(pub u8);
 
 impl Shift {
+    #[tactic(auto, unfolding(crate::specs::Shift::has_shift))]
     pub fn exists(self, mode: LineMode) -> bool
         ensures { result ≡ has_shift mode self }
     {
@@ -16,6 +17,7 @@ impl Shift {
     }
 
     // One move of the display: left adds 1, right subtracts 1.
+    #[tactic(auto, unfolding(crate::specs::Shift::move_of))]
     pub fn moved(self, mode: LineMode, right: bool) -> Shift
         ensures { result ≡ move_of mode right self }
     {

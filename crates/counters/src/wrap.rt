@@ -2,12 +2,14 @@
 ghost use Rattle.std.specs.Prelude.{◌≡◌};
 ghost use Rattle.counters.specs.Wrap.{next as next_of, previous as previous_of, wrapped as wrapped_of};
 
+#[tactic(auto, unfolding(crate::specs::Wrap::next))]
 pub(crate) fn next(last: u8, n: u8) -> u8
     ensures { result ≡ next_of last n }
 {
     if last <= n { 0x00 } else { n + 1 }
 }
 
+#[tactic(auto, unfolding(crate::specs::Wrap::previous))]
 pub(crate) fn previous(last: u8, n: u8) -> u8
     ensures { result ≡ previous_of last n }
 {

@@ -1,4 +1,6 @@
 // The words that `panel` is started with, and what it writes: a record and a line, as bytes in two lent buffers.
+#![tactic(auto)]
+
 ghost use Rattle.course.specs.Course.{Played};
 
 mod call;
@@ -16,7 +18,7 @@ use verdict::decide;
 pub use words::{Asked, asked_by};
 
 // How many bytes each buffer got.
-#[derive(Drop)]
+#[derive(Clone, Copy)]
 pub struct Written {
     pub longer: Answer,
     pub line: Answer,

@@ -1,7 +1,7 @@
 // What the panel program is asked for.
 use calls::Call;
 
-#[derive(Drop)]
+#[derive(Clone, Copy)]
 pub enum Request {
     Make(Call),
     // A night.

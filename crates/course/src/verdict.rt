@@ -6,7 +6,7 @@ use super::call::ask;
 use super::request::Request;
 
 // The line that is said.
-#[derive(Drop)]
+#[derive(Clone, Copy)]
 pub enum Said {
     TooLong,
     // The record's number, 10, or the call's.
@@ -17,7 +17,7 @@ pub enum Said {
     NotYetWritten,
 }
 
-#[derive(Drop)]
+#[derive(Clone, Copy)]
 pub struct Verdict {
     pub said: Said,
     // The record is written.

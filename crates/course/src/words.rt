@@ -6,14 +6,14 @@ use super::request::Request;
 use arguments::{Number, is_word, number_in};
 use calls::Call;
 
-#[derive(Drop)]
+#[derive(Clone, Copy)]
 pub enum Asked {
     Asks(Request),
     Usage,
 }
 
 // A number of the command line.
-#[derive(Drop)]
+#[derive(Clone, Copy)]
 pub enum Byte {
     Given(u8),
     NoByte,

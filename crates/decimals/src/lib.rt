@@ -1,4 +1,6 @@
 // Volts with four decimals, and digits of a number in a base, put at a place of a lent buffer.
+#![tactic(auto)]
+
 mod digits;
 mod volts;
 

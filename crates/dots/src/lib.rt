@@ -1,4 +1,6 @@
 // The dots of one line: the pattern of each digit's code, then the mark of cursor and blink.
+#![tactic(auto)]
+
 mod column;
 mod digit;
 mod line;

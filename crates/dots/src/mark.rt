@@ -14,7 +14,7 @@ use counters::shift::Shift;
 
 // The digit whose display address equals the counter, any number past the line where there is none;
 // whether the cursor sets its last row, and whether blink sets all its rows.
-#[derive(Drop)]
+#[derive(Clone, Copy)]
 pub struct Mark {
     pub digit: usize,
     pub cursor: bool,

@@ -1,5 +1,5 @@
 // The blink phase.
-#[derive(Drop)]
+#[derive(Clone, Copy)]
 pub enum Phase {
     Plain,
     Dark,

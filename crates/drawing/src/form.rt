@@ -1,5 +1,5 @@
 // How a drawing is written.
-#[derive(Drop)]
+#[derive(Clone, Copy)]
 pub enum Form {
     Text,
     Image,

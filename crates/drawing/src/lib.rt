@@ -1,4 +1,6 @@
 // The picture as something to look at: text, or a raw PBM image.
+#![tactic(auto)]
+
 ghost use Rattle.std.specs.Prelude.{◌≡◌};
 ghost use Rattle.drawing.specs.Answers.{value_of, Drawing};
 
@@ -17,7 +19,7 @@ use size::{byte_count, has_digits};
 // The text of 11 rows of 80 digits: no drawing has more.
 pub const MOST_BYTES: usize = 5280;
 
-#[derive(Drop)]
+#[derive(Clone, Copy)]
 pub enum Answer {
     // How many bytes were written.
     Done(usize),

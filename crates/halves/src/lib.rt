@@ -1,18 +1,20 @@
 // Halves: the lines of the bus, the half of a byte that waits on four, and what a transfer completes.
+#![tactic(auto)]
+
 ghost use Rattle.std.specs.Prelude.{◌≤◌, ◌≡◌};
 ghost use Rattle.halves.specs.Halves.{is_four, most_half, half_fits, held_by, is_first, disagrees as disagrees_with, upper_of, completed as completed_by, answered as answered_on};
 
 use event::Kind;
 
 // How many lines of the bus are used.
-#[derive(Drop)]
+#[derive(Clone, Copy)]
 pub enum LineCount {
     Eight,
     Four,
 }
 
 // The upper four lines of a write wait as a number below 16; the half of a read is always 0.
-#[derive(Drop)]
+#[derive(Clone, Copy)]
 pub enum Half {
     Nothing,
     Waiting(Kind, u8),

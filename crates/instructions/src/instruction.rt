@@ -7,7 +7,7 @@ use counters::LineMode;
 use counters::address::{CharacterAddress, DisplayAddress};
 use halves::LineCount;
 
-#[derive(Drop)]
+#[derive(Clone, Copy)]
 pub enum Instruction {
     Nothing,
     Clear,

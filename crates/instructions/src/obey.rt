@@ -58,7 +58,7 @@ fn arranged(registers: Registers, bus: LineCount, mode: Mode) -> Registers
 }
 
 // An instruction's row of the table; the half that waited is not forgotten yet.
-#[derive(Drop)]
+#[derive(Clone, Copy)]
 pub struct Obeyed {
     registers: Registers,
     ticks: u16,

@@ -1,4 +1,6 @@
 // A whole list of events in one call: three bytes each as in the bench record, without its head, and three bytes an answer.
+#![tactic(auto)]
+
 ghost use Rattle.std.specs.Prelude.{length, ◌≡◌};
 ghost use Rattle.list.specs.Answers.{number_of};
 ghost use Rattle.list.specs.List.{answer_for, left_for, buffer_for, Listing};

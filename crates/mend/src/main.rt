@@ -1,4 +1,6 @@
 // The mend program: a record that was cut from standard input, mended to standard output, and a line about it to standard error.
+#![tactic(auto)]
+
 use libc::{STDERR_FILENO, STDIN_FILENO, STDOUT_FILENO};
 use report::report;
 

@@ -1,4 +1,6 @@
 // The panel program: a call as its words, and a record from standard input that leads to where it is made; the record with the call's own events to standard output, and a line about it to standard error.
+#![tactic(auto)]
+
 use course::{Asked, Request, play};
 use libc::{STDERR_FILENO, STDIN_FILENO, STDOUT_FILENO};
 

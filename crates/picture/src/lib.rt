@@ -1,4 +1,6 @@
 // The picture: the dots of every digit, one byte a digit and row.
+#![tactic(auto)]
+
 ghost use Rattle.std.specs.Prelude.{◌≡◌};
 ghost use Rattle.picture.specs.Answers.{number_of, Pictured};
 
@@ -9,7 +11,7 @@ use dots::{IMAGE_SIZE, Phase};
 use size::{byte_count, has_digits};
 use whole::draw;
 
-#[derive(Drop)]
+#[derive(Clone, Copy)]
 pub enum Answer {
     Done,
     BadDigits,

@@ -1,8 +1,10 @@
 // A program's whole text in a lent buffer: how many bytes it has, or that the buffer is too short.
+#![tactic(auto)]
+
 ghost use Rattle.std.specs.Prelude.{◌≡◌};
 ghost use Rattle.printing.specs.Answers.{value_of};
 
-#[derive(Drop)]
+#[derive(Clone, Copy)]
 pub enum Answer {
     // How many bytes the text has.
     Done(usize),

@@ -3,13 +3,13 @@ ghost use Rattle.std.specs.Prelude.{◌≡◌};
 ghost use Rattle.report.specs.Report.{value_of};
 
 // How many bytes the mended record and the line have.
-#[derive(Drop)]
+#[derive(Clone, Copy)]
 pub struct Sizes {
     pub mended: usize,
     pub line: usize,
 }
 
-#[derive(Drop)]
+#[derive(Clone, Copy)]
 pub enum Answer {
     Done(Sizes),
     ShortBuffer,

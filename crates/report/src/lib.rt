@@ -1,4 +1,6 @@
 // What `mend` writes: the mended record and a line about it, as bytes in two lent buffers.
+#![tactic(auto)]
+
 ghost use Rattle.report.specs.Report.{Reported};
 
 mod answer;

@@ -1,4 +1,6 @@
 // The standard restart for four lines, as transfers and waits.
+#![tactic(auto)]
+
 ghost use Rattle.std.specs.Prelude.{◌≤◌, ◌%◌, true, ◌≡◌};
 ghost use Rattle.bus.specs.Transfer.{told};
 ghost use Rattle.controller.specs.Part.{in_range};

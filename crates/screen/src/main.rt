@@ -1,4 +1,6 @@
 // The screen program: one record from standard input, the picture that it leaves to standard output.
+#![tactic(auto)]
+
 use dots::Phase;
 use drawing::Form;
 use libc::{STDIN_FILENO, STDOUT_FILENO};

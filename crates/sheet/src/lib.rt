@@ -1,4 +1,6 @@
 // The words that `bias` is started with, and what it prints, as bytes in a lent buffer.
+#![tactic(auto)]
+
 ghost use Rattle.printing.specs.Answers.{Printed};
 ghost use Rattle.sheet.specs.Sheet.{most_sheet, sheet_of};
 

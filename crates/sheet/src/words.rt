@@ -5,7 +5,7 @@ ghost use Rattle.sheet.specs.Words.{asked_by};
 use arguments::{Number, is_word, number_in};
 use voltages::Bias;
 
-#[derive(Drop)]
+#[derive(Clone, Copy)]
 pub enum Asked {
     Sheet(u16, u16, Bias),
     Usage,

@@ -1,4 +1,6 @@
 // How large a picture is: its lines, digits, rows and bytes.
+#![tactic(auto)]
+
 ghost use Rattle.std.specs.Prelude.{◌≤◌, ◌≡◌};
 ghost use Rattle.size.specs.Size.{lines_of, most_digits, has_digits as has_digits_on, rows_of, bytes_of};
 

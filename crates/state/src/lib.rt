@@ -1,4 +1,6 @@
 // A controller as 159 bytes, one for each field: put and taken.
+#![tactic(auto)]
+
 ghost use Rattle.std.specs.Prelude.{◌+◌, ◌≤◌, length, take, drop, ◌++◌, ◌≡◌};
 ghost use Rattle.controller.specs.Part.{switched_on, with};
 ghost use Rattle.lent.specs.Buffer.{over};

@@ -28,7 +28,7 @@ pub(crate) fn shift_after(registers: Registers) -> Shift
 }
 
 // The registers behind data, and whether the counter passed an end.
-#[derive(Drop)]
+#[derive(Clone, Copy)]
 pub struct Stepped {
     pub registers: Registers,
     pub wrap: bool,

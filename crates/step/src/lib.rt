@@ -1,4 +1,6 @@
 // One transfer with the memories lent: halves, then the whole byte, each change made where it is decided.
+#![tactic(auto)]
+
 ghost use Rattle.std.specs.Prelude.{◌*◌, true, false, ◌≡◌};
 ghost use Rattle.controller.specs.Part.{with, in_range};
 ghost use Rattle.controller.specs.Told.{told_with};

@@ -1,4 +1,6 @@
 // The bench program's text for a record, as bytes in a lent buffer.
+#![tactic(auto)]
+
 ghost use Rattle.printing.specs.Answers.{Printed};
 ghost use Rattle.table.specs.Table.{most_text, printed_of};
 

@@ -1,4 +1,6 @@
 // Text and decimal numbers, put at a place of a lent buffer.
+#![tactic(auto)]
+
 ghost use Rattle.std.specs.Prelude.{◌+◌, ◌%◌, ◌≤◌, ◌<◌, length, ◌++◌, ◌∷◌, [], ◌≡◌};
 ghost use Rattle.lent.specs.Put.{Puts};
 ghost use Rattle.text.specs.Text.{digit_of, decimal_of, refused_of};

@@ -1,4 +1,6 @@
 // The controller for C: every call on numbers and byte slices. A refused call writes nothing.
+#![tactic(auto)]
+
 mod board;
 mod drive;
 mod keeping;

@@ -1,4 +1,6 @@
 // The words that `screen` is started with, and what it prints, as bytes in a lent buffer.
+#![tactic(auto)]
+
 ghost use Rattle.drawing.specs.Drawing.{most_drawn};
 ghost use Rattle.printing.specs.Answers.{Printed};
 ghost use Rattle.view.specs.View.{view_of};

@@ -6,13 +6,13 @@ use arguments::is_word;
 use dots::Phase;
 use drawing::Form;
 
-#[derive(Drop)]
+#[derive(Clone, Copy)]
 pub enum Phased {
     InPhase(Phase),
     NoPhase,
 }
 
-#[derive(Drop)]
+#[derive(Clone, Copy)]
 pub enum Formed {
     InForm(Form),
     NoForm,

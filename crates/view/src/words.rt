@@ -7,7 +7,7 @@ use arguments::{Number, number_in};
 use dots::Phase;
 use drawing::Form;
 
-#[derive(Drop)]
+#[derive(Clone, Copy)]
 pub enum Asked {
     View(u8, Phase, Form),
     Usage,

@@ -1,15 +1,17 @@
 // The bias sheet: the drive voltages of quarter and of fifth bias, in volts, from VDD and the drive span in 64ths.
+#![tactic(auto)]
+
 ghost use Rattle.std.specs.Prelude.{◌≡◌};
 ghost use Rattle.voltages.specs.Answers.{number_of, is_within, answer_of};
 ghost use Rattle.voltages.specs.Voltages.{volts_of, step_of, divisor_of, steps_of};
 
-#[derive(Drop)]
+#[derive(Clone, Copy)]
 pub enum Bias {
     Quarter,
     Fifth,
 }
 
-#[derive(Drop)]
+#[derive(Clone, Copy)]
 pub enum Steps {
     // V1, V2 = V3, V4.
     Quarter(f32, f32, f32),
@@ -17,7 +19,7 @@ pub enum Steps {
     Fifth(f32, f32, f32, f32),
 }
 
-#[derive(Drop)]
+#[derive(Clone, Copy)]
 pub enum Answer {
     Done(Steps),
     BadVdd,
