@@ -32,6 +32,7 @@ impl Controller {
     // Busy ticks of every other instruction and of data.
     pub const SHORT: u16 = 10;
 
+    #[tactic(auto, unfolding(crate::specs::Part::switched_on, crate::specs::Part::fresh_with, crate::specs::Part::fresh_registers))]
     pub fn switched_on() -> Controller
         ensures { result ≡ switched_on }
     {

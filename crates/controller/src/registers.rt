@@ -43,6 +43,7 @@ pub struct Registers {
 }
 
 impl Registers {
+    #[tactic(auto, unfolding(crate::specs::Part::in_range))]
     pub fn in_range(self) -> bool
         ensures { result ≡ in_range self }
     {
@@ -56,6 +57,7 @@ impl Registers {
             & (shift.exists(lines) & (half.fits(bus) & (self.busy <= Controller::LONGEST)))
     }
 
+    #[tactic(auto, unfolding(crate::specs::Part::waited))]
     pub fn waited(self, ticks: u16) -> Registers
         ensures { result ≡ waited_of self ticks }
     {

@@ -21,6 +21,7 @@ pub enum Half {
 }
 
 impl LineCount {
+    #[tactic(auto, unfolding(crate::specs::Halves::is_four))]
     fn is_four(self) -> bool
         ensures { result ≡ is_four self }
     {
@@ -40,6 +41,7 @@ fn most_half(kind: Kind) -> u8
 
 impl Half {
     // Whether it can wait on so many lines.
+    #[tactic(auto, using(condition::proofs::Tests::met), unfolding(crate::specs::Halves::half_fits))]
     pub fn fits(self, bus: LineCount) -> bool
         ensures { result ≡ half_fits bus self }
     {
@@ -61,6 +63,7 @@ impl Half {
     }
 
     // Whether a transfer is the first half of a byte.
+    #[tactic(auto, using(condition::proofs::Tests::met), unfolding(crate::specs::Halves::is_first))]
     pub fn is_first(self, bus: LineCount) -> bool
         ensures { result ≡ is_first bus self }
     {
@@ -71,6 +74,7 @@ impl Half {
     }
 
     // Whether a transfer of this kind disagrees with the half that waits.
+    #[tactic(auto, using(condition::proofs::Tests::met), unfolding(crate::specs::Halves::disagrees))]
     pub fn disagrees(self, bus: LineCount, kind: Kind) -> bool
         ensures { result ≡ disagrees_with bus self kind }
     {
@@ -90,6 +94,7 @@ impl Half {
     }
 
     // The byte written; on four lines its upper half is the one that waits.
+    #[tactic(auto, using(crate::proofs::Waiting::completed_by_lines))]
     pub fn completed(self, bus: LineCount, byte: u8) -> u8
         requires { upper_of self ≤ 15 }
         ensures { result ≡ completed_by bus self byte }
@@ -103,6 +108,7 @@ impl Half {
 }
 
 // What a read answers with the transfer that completes it.
+#[tactic(auto, using(crate::proofs::Waiting::answered_by_lines))]
 pub fn answered(bus: LineCount, value: u8) -> u8
     ensures { result ≡ answered_on bus value }
 {
