@@ -28,6 +28,7 @@ fn homed(registers: Registers) -> Registers
 }
 
 // Where N changes, the counter's address may no longer exist.
+#[tactic(auto, unfolding(crate::specs::Instructions::rearranged, crate::specs::Instructions::unless_changed))]
 fn rearranged(registers: Registers, lines: LineMode) -> Registers
     ensures { result ≡ rearranged_of lines registers }
 {
@@ -66,6 +67,7 @@ pub struct Obeyed {
     wrap: bool,
 }
 
+#[tactic(auto, unfolding(crate::specs::Instructions::obey, crate::specs::Instructions::moved, crate::specs::Instructions::moves_past, crate::specs::Instructions::row_of))]
 fn row_of(registers: Registers, instruction: Instruction) -> Obeyed
     ensures { obeyed_as result (obey_of instruction registers).change ≡ obey_of instruction registers }
 {

@@ -10,6 +10,7 @@ use counters::LineMode;
 // 11 rows of 80 digits: no picture has more.
 pub const MOST_BYTES: usize = 880;
 
+#[tactic(auto, unfolding(crate::specs::Size::most_digits))]
 fn most_digits(lines: LineMode) -> u8
     ensures { (result ≡ most_digits lines) × (result ≤ 80) }
 {
@@ -19,12 +20,14 @@ fn most_digits(lines: LineMode) -> u8
     }
 }
 
+#[tactic(auto, unfolding(crate::specs::Size::has_digits))]
 pub fn has_digits(lines: LineMode, digits: u8) -> bool
     ensures { result ≡ has_digits_on lines digits }
 {
     (1 <= digits) & (digits <= most_digits(lines))
 }
 
+#[tactic(auto, unfolding(crate::specs::Size::lines_of))]
 pub fn line_count(lines: LineMode) -> u8
     ensures { (result ≡ lines_of lines) × (result ≤ 2) }
 {
@@ -34,6 +37,7 @@ pub fn line_count(lines: LineMode) -> u8
     }
 }
 
+#[tactic(auto, unfolding(crate::specs::Size::rows_in))]
 pub fn row_count(mode: Mode) -> usize
     ensures { (result ≡ rows_of mode) × (8 ≤ result) × (result ≤ 11) }
 {
