@@ -11,7 +11,7 @@ use controller::answer::Answer;
 use event::Kind;
 
 // What a transfer or a wait comes to.
-#[derive(Drop)]
+#[derive(Clone, Copy)]
 pub struct Outcome {
     pub controller: Controller,
     pub answer: Answer,
