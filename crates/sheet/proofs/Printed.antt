@@ -1,14 +1,10 @@
 -- What an answer prints, by what it is, and what its lines ask.
 use Prim.Native.Nat.{ℕ, ◌≤◌}
-use denote.Enum.Declared.{tag_of, declared}
 use lib.Dec.{T, lit≤}
 use lib.Ieee.{is_nan}
 use mathlib.Core.Bool.{not}
-use mathlib.Core.Logic.{◌⊎◌, ⊎_elim}
 use mathlib.Core.Path.{◌≡◌, refl, subst⁻¹}
-use native.Mathlib.Omega.{arith}
 use Rattle.text.specs.Text.{refused_of}
-use Rattle.voltages.specs.contracts.Answer.{enum}
 use Rattle.voltages.proofs.Answers.{done_told}
 use Rattle.voltages.proofs.Exact.{in_range_lem}
 use Rattle.voltages.proofs.Ladder.{voltages_are_numbers}
@@ -22,9 +18,9 @@ use Rattle.voltages.specs.declared.Steps.{Steps}
 use Rattle.sheet.specs.Promises.{AllNumbers, Formulas}
 use Rattle.sheet.specs.Sheet.{printed_for}
 
-pub refused_printed : (vdd span : ℕ) (r : Answer) → (tag_of (declared enum) r ≡ 1) ⊎ (tag_of (declared enum) r ≡ 2) → printed_for vdd span r ≡ refused_of (number_of r)
+pub refused_printed : (vdd span : ℕ) (r : Answer) → ((steps : Steps) → r ≡ Done steps → ⊥) → printed_for vdd span r ≡ refused_of (number_of r)
 unfolding printed_for
-refused_printed vdd span (Done steps) h = absurd (⊎_elim (λ e. omega arith) (λ e. omega arith) h)
+refused_printed vdd span (Done steps) h = absurd (h steps refl)
 refused_printed vdd span BadVdd h = refl
 refused_printed vdd span BadSpan h = refl
 
