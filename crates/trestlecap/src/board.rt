@@ -7,15 +7,13 @@ use list::run_by_value;
 use restart::restart;
 use state::{put, take};
 
-#[unsafe(no_mangle)]
-pub extern "C" fn trestlecap_switch_on(state: &mut [u8]) -> u8
+pub fn trestlecap_switch_on(state: &mut [u8]) -> u8
     ensures { SwitchingOn state.old result state.new }
 {
     put(Controller::switched_on(), state).number()
 }
 
-#[unsafe(no_mangle)]
-pub extern "C" fn trestlecap_run_list(state: &mut [u8], events: &[u8], answers: &mut [u8]) -> u8
+pub fn trestlecap_run_list(state: &mut [u8], events: &[u8], answers: &mut [u8]) -> u8
     ensures { RunningList state.old events.now answers.old result state.new answers.new }
 {
     let taken = take(state);
@@ -30,8 +28,7 @@ pub extern "C" fn trestlecap_run_list(state: &mut [u8], events: &[u8], answers: 
 }
 
 // Zeros on the lower lines.
-#[unsafe(no_mangle)]
-pub extern "C" fn trestlecap_restart(state: &mut [u8]) -> u8
+pub fn trestlecap_restart(state: &mut [u8]) -> u8
     ensures { Restarting state.old result state.new }
 {
     let taken = take(state);

@@ -4,8 +4,7 @@ ghost use Rattle.trestlecap.specs.Called.{Driving};
 
 use voltages::{Answer, Bias, Steps, voltages};
 
-#[unsafe(no_mangle)]
-pub extern "C" fn trestlecap_quarter_bias(vdd: u16, span: u16, volts: &mut [f32; 3]) -> u8
+pub fn trestlecap_quarter_bias(vdd: u16, span: u16, volts: &mut [f32; 3]) -> u8
     ensures { Driving vdd span Bias.Quarter volts.old result volts.new }
 {
     match voltages(vdd, span, Bias::Quarter) {
@@ -21,8 +20,7 @@ pub extern "C" fn trestlecap_quarter_bias(vdd: u16, span: u16, volts: &mut [f32;
     }
 }
 
-#[unsafe(no_mangle)]
-pub extern "C" fn trestlecap_fifth_bias(vdd: u16, span: u16, volts: &mut [f32; 4]) -> u8
+pub fn trestlecap_fifth_bias(vdd: u16, span: u16, volts: &mut [f32; 4]) -> u8
     ensures { Driving vdd span Bias.Fifth volts.old result volts.new }
 {
     match voltages(vdd, span, Bias::Fifth) {

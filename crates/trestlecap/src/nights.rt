@@ -37,37 +37,19 @@ fn panel_call(state: &mut [u8], call: Call, characters: &[u8], wrap: &mut u8) ->
     made(make(taken.controller, call, characters), state, wrap)
 }
 
-#[unsafe(no_mangle)]
-pub extern "C" fn trestlecap_text(
-    state: &mut [u8],
-    line: u8,
-    characters: &[u8],
-    wrap: &mut u8,
-) -> u8
+pub fn trestlecap_text(state: &mut [u8], line: u8, characters: &[u8], wrap: &mut u8) -> u8
     ensures { MakingCall state.old (Call.Text line) characters.now wrap.old result state.new wrap.new }
 {
     panel_call(state, Call::Text(line), characters, wrap)
 }
 
-#[unsafe(no_mangle)]
-pub extern "C" fn trestlecap_log_night(
-    state: &mut [u8],
-    night: u8,
-    quarters: u8,
-    wrap: &mut u8,
-) -> u8
+pub fn trestlecap_log_night(state: &mut [u8], night: u8, quarters: u8, wrap: &mut u8) -> u8
     ensures { MakingCall state.old (Call.Log night quarters) [] wrap.old result state.new wrap.new }
 {
     panel_call(state, Call::Log(night, quarters), b"", wrap)
 }
 
-#[unsafe(no_mangle)]
-pub extern "C" fn trestlecap_look_up(
-    state: &[u8],
-    night: u8,
-    written: &mut u8,
-    quarters: &mut u8,
-) -> u8
+pub fn trestlecap_look_up(state: &[u8], night: u8, written: &mut u8, quarters: &mut u8) -> u8
     ensures { LookingUp state.now night written.old quarters.old result written.new quarters.new }
 {
     let taken = take(state);

@@ -3,8 +3,7 @@ ghost use Rattle.trestlecap.specs.Called.{MendingRecord};
 
 use mending::{Answer, mend};
 
-#[unsafe(no_mangle)]
-pub extern "C" fn trestlecap_mend(
+pub fn trestlecap_mend(
     bytes: &[u8],
     mended: &mut [u8],
     kept: &mut u16,

@@ -13,14 +13,7 @@ fn phase(dark: u8) -> Phase
     if dark == 0 { Phase::Plain } else { Phase::Dark }
 }
 
-#[unsafe(no_mangle)]
-pub extern "C" fn trestlecap_picture(
-    state: &[u8],
-    digits: u8,
-    rom: &[u8],
-    dark: u8,
-    out: &mut [u8],
-) -> u8
+pub fn trestlecap_picture(state: &[u8], digits: u8, rom: &[u8], dark: u8, out: &mut [u8]) -> u8
     ensures { Picturing state.now digits rom.now dark out.old result out.new }
 {
     let taken = take(state);
