@@ -15,7 +15,6 @@ use printing::Answer;
 pub const MOST_BYTES: usize = printed::HEADING_BYTES + line::LINE_BYTES * record::MOST_EVENTS;
 
 // `too long`, a refusal or the table; the bytes behind it stay. A buffer below MOST_BYTES is refused, whatever the record.
-#[tactic(auto, using(printing::proofs::Printed::printed_short, printing::proofs::Printed::printed_done))]
 pub fn table(bytes: &[u8], out: &mut [u8]) -> Answer
     ensures { Printed most_text (printed_of bytes.now) out.old result out.new }
 {

@@ -9,7 +9,6 @@ use text::{put_refused, put_text};
 
 pub(crate) const HEADING_BYTES: usize = 36;
 
-#[tactic(auto, using(lent::proofs::Placed::puts_then), unfolding(crate::specs::Table::table_of))]
 fn put_table(bytes: &[u8], out: &mut [u8]) -> usize
     requires { (check_of bytes.now ≡ 0) × (length bytes.now ≤ most_bytes) × (most_text ≤ length out.old) }
     ensures { Puts (table_of bytes.now) 0 out.old result out.new }
@@ -18,7 +17,6 @@ fn put_table(bytes: &[u8], out: &mut [u8]) -> usize
     put_lines(bytes, next, out)
 }
 
-#[tactic(auto, using(crate::proofs::Outcomes::prints_too_long, crate::proofs::Outcomes::prints_refused, crate::proofs::Outcomes::prints_table))]
 pub(crate) fn put_printed(bytes: &[u8], out: &mut [u8]) -> usize
     requires { most_text ≤ length out.old }
     ensures { Puts (printed_of bytes.now) 0 out.old result out.new }
