@@ -8,6 +8,7 @@ use table::table;
 // A byte more than the longest record, so that a longer one is seen.
 const INPUT: u64 = record::MOST_BYTES as u64 + 1;
 
+#[tactic(auto, using(printing::proofs::Printed::at_the_front))]
 fn main(rt: HostRuntime) -> io::Result<()> {
     let mut input = Vec::new(rt.alloc());
     rt.stdin().take(INPUT).read_to_end(&mut input)?;

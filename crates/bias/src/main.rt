@@ -32,6 +32,7 @@ fn asked(rt: &impl Env) -> Asked {
     )
 }
 
+#[tactic(auto, using(printing::proofs::Printed::at_the_front))]
 fn print(rt: &HostRuntime, vdd: u16, span: u16, bias: Bias) -> io::Result<()> {
     let mut text = [0u8; sheet::MOST_BYTES];
     let size = sheet(vdd, span, bias, &mut text).value();

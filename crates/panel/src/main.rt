@@ -34,6 +34,7 @@ fn asked(rt: &impl Env) -> Asked {
     )
 }
 
+#[tactic(auto, using(printing::proofs::Printed::at_the_front))]
 fn answer(rt: &HostRuntime, request: Request, characters: &[u8]) -> io::Result<()> {
     let mut input = Vec::new(rt.alloc());
     rt.stdin().take(INPUT).read_to_end(&mut input)?;

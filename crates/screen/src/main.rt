@@ -64,6 +64,7 @@ fn fail(rt: &HostRuntime, path: &[u8], error: io::Error) -> io::Result<()> {
     eprintln!(rt; ": {}", words_alone(&text))
 }
 
+#[tactic(auto, using(printing::proofs::Printed::at_the_front))]
 fn show(rt: &HostRuntime, digits: u8, phase: Phase, form: Form, rom: &[u8]) -> io::Result<()> {
     let mut input = Vec::new(rt.alloc());
     rt.stdin().take(INPUT).read_to_end(&mut input)?;
