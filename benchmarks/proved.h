@@ -1,4 +1,4 @@
-/* The proved functions as C calls them: the library's list, and crates/benchmark_picture. A slice is a pointer and a
+/* The proved functions as C calls them: the library's list, and crates/benchmark_picture_c. A slice is a pointer and a
    length. */
 #ifndef PROVED_H
 #define PROVED_H

@@ -10,7 +10,7 @@
 #include <stdlib.h>
 #include <string.h>
 
-/* crates/bias_export, as C calls it: a slice is a pointer and a length. 0 is a buffer that is too short. */
+/* crates/bias_export_c, as C calls it: a slice is a pointer and a length. 0 is a buffer that is too short. */
 size_t bias_sheet(uint16_t vdd, uint16_t span, bool fifth, uint8_t *out, size_t length);
 
 enum { ROOM = 80, BEHIND = 16, UNTOUCHED = 0xAA };

@@ -1,16 +1,17 @@
 // The bench program: one record from standard input, its table to standard output.
 #![tactic(auto)]
 
-use libc::{STDIN_FILENO, STDOUT_FILENO};
+use std::io;
+use std::io::{Read, Write};
 use table::table;
 
 // A byte more than the longest record, so that a longer one is seen.
-const INPUT: usize = record::MOST_BYTES + 1;
+const INPUT: u64 = record::MOST_BYTES as u64 + 1;
 
-fn main() {
-    let mut input = [0u8; INPUT];
-    let got = io::read_full(STDIN_FILENO, &mut input);
+fn main(rt: HostRuntime) -> io::Result<()> {
+    let mut input = Vec::new(rt.alloc());
+    rt.stdin().take(INPUT).read_to_end(&mut input)?;
     let mut text = [0u8; table::MOST_BYTES];
-    let size = table(&input[..got], &mut text).value();
-    io::write_all(STDOUT_FILENO, &text[..size]);
+    let size = table(&input, &mut text).value();
+    rt.stdout().write_all(&text[..size])
 }

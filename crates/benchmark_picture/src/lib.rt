@@ -16,8 +16,7 @@ fn phase(dark: bool) -> Phase
 
 // The picture, and the same one `again` times more, which changes nothing. The answer is the picture's number; a refused
 // record leaves the part just switched on.
-#[unsafe(no_mangle)]
-pub extern "C" fn benchmark_picture(
+pub fn benchmark_picture(
     bytes: &[u8],
     digits: u8,
     rom: &[u8],

@@ -14,8 +14,7 @@ fn bias(fifth: bool) -> Bias
 }
 
 // How many bytes the sheet has, or 0 for a buffer below `sheet::MOST_BYTES`.
-#[unsafe(no_mangle)]
-pub extern "C" fn bias_sheet(vdd: u16, span: u16, fifth: bool, out: &mut [u8]) -> usize
+pub fn bias_sheet(vdd: u16, span: u16, fifth: bool, out: &mut [u8]) -> usize
     ensures { Called vdd span fifth out.old result out.new }
 {
     sheet(vdd, span, bias(fifth), out).value()

@@ -42,15 +42,15 @@ fn draw_columns<'a>(
 // Asks for a part whose display is on; writes rows x digits bytes.
 #[tactic(auto, using(size::proofs::Sizes::most_small))]
 pub fn draw_line(
-    controller: &Controller,
+    controller: Controller,
     digits: u8,
     rom: &[u8],
     phase: Phase,
     line: u8,
     out: &mut [u8],
 )
-    requires { (Drawable controller.now digits (length rom.now)) × (controller.now.registers.lights.display ≡ true) × (line < lines_of controller.now.registers.mode.lines) × (length out.old ≡ rows_of controller.now.registers.mode * digits) }
-    ensures { out.new ≡ line_of controller.now digits rom.now phase line }
+    requires { (Drawable controller digits (length rom.now)) × (controller.registers.lights.display ≡ true) × (line < lines_of controller.registers.mode.lines) × (length out.old ≡ rows_of controller.registers.mode * digits) }
+    ensures { out.new ≡ line_of controller digits rom.now phase line }
 {
     let registers = controller.registers;
     let mode = registers.mode;

@@ -1,18 +1,19 @@
 // The mend program: a record that was cut from standard input, mended to standard output, and a line about it to standard error.
 #![tactic(auto)]
 
-use libc::{STDERR_FILENO, STDIN_FILENO, STDOUT_FILENO};
 use report::report;
+use std::io;
+use std::io::{Read, Write};
 
 // A byte more than the longest input, so that a longer one is seen.
-const INPUT: usize = report::MOST_INPUT + 1;
+const INPUT: u64 = report::MOST_INPUT as u64 + 1;
 
-fn main() {
-    let mut input = [0u8; INPUT];
-    let got = io::read_full(STDIN_FILENO, &mut input);
+fn main(rt: HostRuntime) -> io::Result<()> {
+    let mut input = Vec::new(rt.alloc());
+    rt.stdin().take(INPUT).read_to_end(&mut input)?;
     let mut mended = [0u8; record::MOST_BYTES];
     let mut line = [0u8; report::MOST_LINE];
-    let sizes = report(&input[..got], &mut mended, &mut line).value();
-    io::write_all(STDOUT_FILENO, &mended[..sizes.mended]);
-    io::write_all(STDERR_FILENO, &line[..sizes.line]);
+    let sizes = report(&input, &mut mended, &mut line).value();
+    rt.stdout().write_all(&mended[..sizes.mended])?;
+    rt.stderr().write_all(&line[..sizes.line])
 }

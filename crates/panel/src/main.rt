@@ -2,57 +2,62 @@
 #![tactic(auto)]
 
 use course::{Asked, Request, play};
-use libc::{STDERR_FILENO, STDIN_FILENO, STDOUT_FILENO};
+use std::env::{Env, FillError};
+use std::io;
+use std::io::{Read, Write};
 
 // A byte more than the longest record, so that a longer one is seen.
-const INPUT: usize = record::MOST_BYTES + 1;
+const INPUT: u64 = record::MOST_BYTES as u64 + 1;
 
-fn asked() -> Asked {
-    let mut what = io::buffer();
-    let mut first = io::buffer();
-    let mut second = io::buffer();
-    let words = os::arg_count();
-    if words == 0 {
-        return Asked::Usage;
-    }
-    let what_size = os::arg(1, &mut what);
-    let first_size = os::arg(2, &mut first);
-    let second_size = os::arg(3, &mut second);
+// The most bytes of a word; a longer one is read as an empty one.
+const WORD: usize = 4096;
+
+// How many words follow the program's name.
+fn words(rt: &impl Env) -> usize {
+    (1..usize::MAX)
+        .position(|at| matches!(rt.arg(at, &mut []), Err(FillError::NotPresent)))
+        .unwrap_or(0)
+}
+
+fn asked(rt: &impl Env) -> Asked {
+    let mut what = [0u8; WORD];
+    let mut first = [0u8; WORD];
+    let mut second = [0u8; WORD];
+    let what_size = rt.arg(1, &mut what).unwrap_or(0);
+    let first_size = rt.arg(2, &mut first).unwrap_or(0);
+    let second_size = rt.arg(3, &mut second).unwrap_or(0);
     course::asked_by(
-        words - 1,
+        words(rt),
         &what[..what_size],
         &first[..first_size],
         &second[..second_size],
     )
 }
 
-fn answer(request: Request, characters: &[u8]) {
-    let mut input = [0u8; INPUT];
-    let got = io::read_full(STDIN_FILENO, &mut input);
+fn answer(rt: &HostRuntime, request: Request, characters: &[u8]) -> io::Result<()> {
+    let mut input = Vec::new(rt.alloc());
+    rt.stdin().take(INPUT).read_to_end(&mut input)?;
     let mut longer = [0u8; record::MOST_BYTES];
     let mut line = [0u8; course::MOST_LINE];
-    let written = play(request, characters, &input[..got], &mut longer, &mut line);
+    let written = play(request, characters, &input, &mut longer, &mut line);
     let longer_answer = written.longer;
     let line_answer = written.line;
     let longer_size = longer_answer.value();
     let line_size = line_answer.value();
-    io::write_all(STDOUT_FILENO, &longer[..longer_size]);
-    io::write_all(STDERR_FILENO, &line[..line_size]);
+    rt.stdout().write_all(&longer[..longer_size])?;
+    rt.stderr().write_all(&line[..line_size])
 }
 
-fn main() {
-    match asked() {
-        Asked::Usage => {
-            io::write_all(
-                STDOUT_FILENO,
-                b"usage: panel text LINE CHARACTERS | log NIGHT QUARTERS | night NIGHT\n",
-            );
-        }
+fn main(rt: HostRuntime) -> io::Result<()> {
+    match asked(&rt) {
+        Asked::Usage => rt.stdout().write_all(
+            b"usage: panel text LINE CHARACTERS | log NIGHT QUARTERS | night NIGHT\n",
+        ),
         Asked::Asks(request) => {
             // A text's characters are the third word.
-            let mut characters = io::buffer();
-            let size = os::arg(3, &mut characters);
-            answer(request, &characters[..size]);
+            let mut characters = [0u8; WORD];
+            let size = rt.arg(3, &mut characters).unwrap_or(0);
+            answer(&rt, request, &characters[..size])
         }
     }
 }

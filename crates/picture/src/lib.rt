@@ -37,13 +37,13 @@ impl Answer {
 
 // Writes lines x rows x digits bytes in the order line, row, digit; a refusal writes none.
 pub fn picture(
-    controller: &Controller,
+    controller: Controller,
     digits: u8,
     rom: &[u8],
     phase: Phase,
     out: &mut [u8],
 ) -> Answer
-    ensures { Pictured controller.now digits rom.now phase out.old result out.new }
+    ensures { Pictured controller digits rom.now phase out.old result out.new }
 {
     let registers = controller.registers;
     if !registers.in_range() {

@@ -24,7 +24,7 @@ pub const BYTES: usize = 159;
 // The bytes of the two memories.
 const MEMORIES: usize = 144;
 
-#[derive(Drop)]
+#[derive(Clone, Copy)]
 pub struct Taken {
     pub answer: Answer,
     // The part just switched on beside a refusal.

@@ -7,15 +7,14 @@ use list::run_by_value;
 use restart::restart;
 use state::{put, take};
 
-#[unsafe(no_mangle)]
-pub extern "C" fn trestlecap_switch_on(state: &mut [u8]) -> u8
+pub fn trestlecap_switch_on(state: &mut [u8]) -> u8
     ensures { SwitchingOn state.old result state.new }
 {
     put(Controller::switched_on(), state).number()
 }
 
-#[unsafe(no_mangle)]
-pub extern "C" fn trestlecap_run_list(state: &mut [u8], events: &[u8], answers: &mut [u8]) -> u8
+#[tactic(auto, using(list::proofs::Refused::refused_list_leaves, state::proofs::Lengths::taken_length, crate::proofs::Held::held, crate::proofs::Held::none_held, crate::proofs::Held::sixteen, crate::proofs::Held::buffer_none, crate::proofs::Held::buffer_held, crate::proofs::Held::none_on, crate::proofs::Held::kept_on))]
+pub fn trestlecap_run_list(state: &mut [u8], events: &[u8], answers: &mut [u8]) -> u8
     ensures { RunningList state.old events.now answers.old result state.new answers.new }
 {
     let taken = take(state);
@@ -30,8 +29,8 @@ pub extern "C" fn trestlecap_run_list(state: &mut [u8], events: &[u8], answers: 
 }
 
 // Zeros on the lower lines.
-#[unsafe(no_mangle)]
-pub extern "C" fn trestlecap_restart(state: &mut [u8]) -> u8
+#[tactic(auto, using(state::proofs::Lengths::taken_length, crate::proofs::Held::held, crate::proofs::Held::none_held, crate::proofs::Held::sixteen, crate::proofs::Held::none_on, crate::proofs::Held::kept_on, crate::proofs::Refused::refused_restart))]
+pub fn trestlecap_restart(state: &mut [u8]) -> u8
     ensures { Restarting state.old result state.new }
 {
     let taken = take(state);

@@ -3,8 +3,8 @@ ghost use Rattle.trestlecap.specs.Called.{MendingRecord};
 
 use mending::{Answer, mend};
 
-#[unsafe(no_mangle)]
-pub extern "C" fn trestlecap_mend(
+#[tactic(auto, using(crate::proofs::Mended::kept_few, crate::proofs::Mended::mended_said, crate::proofs::Mended::not_mended))]
+pub fn trestlecap_mend(
     bytes: &[u8],
     mended: &mut [u8],
     kept: &mut u16,

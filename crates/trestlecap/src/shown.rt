@@ -13,14 +13,8 @@ fn phase(dark: u8) -> Phase
     if dark == 0 { Phase::Plain } else { Phase::Dark }
 }
 
-#[unsafe(no_mangle)]
-pub extern "C" fn trestlecap_picture(
-    state: &[u8],
-    digits: u8,
-    rom: &[u8],
-    dark: u8,
-    out: &mut [u8],
-) -> u8
+#[tactic(auto, using(crate::proofs::Held::held, crate::proofs::Held::none_held, crate::proofs::Held::sixteen, crate::proofs::Held::number_none, crate::proofs::Held::buffer_none, crate::proofs::Held::number_held, crate::proofs::Held::buffer_held))]
+pub fn trestlecap_picture(state: &[u8], digits: u8, rom: &[u8], dark: u8, out: &mut [u8]) -> u8
     ensures { Picturing state.now digits rom.now dark out.old result out.new }
 {
     let taken = take(state);
