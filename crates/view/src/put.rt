@@ -35,6 +35,7 @@ fn show(
     draw(form, mode, digits, &dots[..bytes], out).value()
 }
 
+#[tactic(auto, using(crate::proofs::Views::view_long, crate::proofs::Views::view_refused, crate::proofs::Views::view_shown, crate::proofs::Views::ran_told, crate::proofs::Views::told_in_range))]
 pub(crate) fn put_view(
     digits: u8,
     phase: Phase,

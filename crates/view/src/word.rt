@@ -18,6 +18,7 @@ pub enum Formed {
     NoForm,
 }
 
+#[tactic(auto, unfolding(crate::specs::Words::phase_in))]
 pub(crate) fn phase_in(word: &[u8]) -> Phased
     ensures { result ≡ phase_in word.now }
 {
@@ -30,6 +31,7 @@ pub(crate) fn phase_in(word: &[u8]) -> Phased
     Phased::NoPhase
 }
 
+#[tactic(auto, unfolding(crate::specs::Words::form_in))]
 pub(crate) fn form_in(words: usize, word: &[u8]) -> Formed
     ensures { result ≡ form_in words word.now }
 {

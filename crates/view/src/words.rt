@@ -14,6 +14,7 @@ pub enum Asked {
 }
 
 // The words DIGITS, plain or dark, and pbm if there are four; with any other count or word the usage is asked for.
+#[tactic(auto, using(arguments::proofs::Numbers::at_most), unfolding(crate::specs::Words::asked_of, crate::specs::Words::asked_by))]
 pub fn asked_by(words: usize, digits: &[u8], phase: &[u8], form: &[u8]) -> Asked
     ensures { result ≡ asked_by words digits.now phase.now form.now }
 {
