@@ -11,7 +11,7 @@ use controller::answer::Answer;
 use event::Kind;
 
 // What a transfer or a wait comes to.
-#[derive(Drop)]
+#[derive(Clone, Copy)]
 pub struct Outcome {
     pub controller: Controller,
     pub answer: Answer,
@@ -19,6 +19,7 @@ pub struct Outcome {
     pub wrap: bool,
 }
 
+#[tactic(auto, unfolding(crate::specs::Transfer::transfer_of))]
 pub fn transfer(controller: Controller, kind: Kind, value: u8) -> Outcome
     ensures { told result ≡ transfer_of controller kind value }
 {
@@ -46,6 +47,7 @@ pub fn transfer(controller: Controller, kind: Kind, value: u8) -> Outcome
     }
 }
 
+#[tactic(auto, unfolding(crate::specs::Transfer::wait_of))]
 pub fn wait(controller: Controller, ticks: u16) -> Outcome
     ensures { told result ≡ wait_of controller ticks }
 {

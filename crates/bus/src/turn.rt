@@ -10,6 +10,7 @@ use controller::effect::Effect;
 use controller::registers::Registers;
 use event::{Event, Kind};
 
+#[tactic(auto, using(condition::proofs::Tests::holds, crate::proofs::Free::transfer_steps), unfolding(crate::specs::Transfer::transfer_of, step::specs::Step::result_for, controller::specs::Memory::display_after, controller::specs::Memory::character_after))]
 pub(crate) fn transferred(
     display: &mut [u8; 80],
     character: &mut [u8; 64],

@@ -27,6 +27,7 @@ pub enum Call {
 pub const MOST_BYTES: usize = 18 * bytes_given::BYTE_ROOM;
 
 // The characters are a text's.
+#[tactic(auto, using(crate::proofs::Calls::text_room, crate::proofs::Calls::log_room))]
 pub fn put_call(
     bus: LineCount,
     call: Call,

@@ -8,6 +8,7 @@ use counters::address::DisplayAddress;
 use halves::LineCount;
 
 // Where a line of the screen starts.
+#[tactic(auto, using(crate::proofs::Calls::first_line, crate::proofs::Calls::other_line))]
 fn line_address(line: u8) -> DisplayAddress
     ensures { result ≡ line_address line }
 {

@@ -15,7 +15,7 @@ use counters::shift::Shift;
 use halves::{Half, LineCount};
 use registers::{Entry, Lights, Mode, Registers};
 
-#[derive(Drop)]
+#[derive(Clone, Copy)]
 pub struct Controller {
     pub display: [u8; 80],
     pub character: [u8; 64],

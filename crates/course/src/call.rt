@@ -10,6 +10,7 @@ use bedside::{Night, answer_to, look_up};
 use calls::{Call, put_call};
 use controller::Controller;
 
+#[tactic(auto, using(bedside::proofs::Called::put_taken))]
 fn make(part: Controller, call: Call, characters: &[u8], events: &mut [u8]) -> Verdict
     requires { call_room ≤ length events.old }
     ensures { Heard part (Request.Make call) characters.now result events.new }
@@ -32,6 +33,7 @@ fn make(part: Controller, call: Call, characters: &[u8], events: &mut [u8]) -> V
     }
 }
 
+#[tactic(auto, using(crate::proofs::Heard::written_said, crate::proofs::Heard::unwritten_said, crate::proofs::Heard::not_in_range_said, crate::proofs::Heard::bad_night_said))]
 fn look(part: Controller, night: u8) -> Said
     ensures { said_line result ≡ call_line part (Request.LookUp night) [] }
 {
@@ -44,6 +46,7 @@ fn look(part: Controller, night: u8) -> Said
 }
 
 // A look-up has no events.
+#[tactic(auto, using(crate::proofs::Heard::call_heard))]
 pub(crate) fn ask(
     part: Controller,
     request: Request,

@@ -21,6 +21,7 @@ pub enum Byte {
 
 const MOST_NUMBER: u16 = 255;
 
+#[tactic(auto, using(arguments::proofs::Numbers::at_most), unfolding(crate::specs::Words::byte_in))]
 fn byte_in(word: &[u8]) -> Byte
     ensures { result ≡ byte_in word.now }
 {
@@ -30,6 +31,7 @@ fn byte_in(word: &[u8]) -> Byte
     }
 }
 
+#[tactic(auto, unfolding(crate::specs::Words::text_asked))]
 fn text_asked(line: Byte) -> Asked
     ensures { result ≡ text_asked line }
 {
@@ -39,6 +41,7 @@ fn text_asked(line: Byte) -> Asked
     }
 }
 
+#[tactic(auto, unfolding(crate::specs::Words::log_asked))]
 fn log_asked(night: Byte, quarters: Byte) -> Asked
     ensures { result ≡ log_asked night quarters }
 {
@@ -51,6 +54,7 @@ fn log_asked(night: Byte, quarters: Byte) -> Asked
     }
 }
 
+#[tactic(auto, unfolding(crate::specs::Words::night_asked))]
 fn night_asked(night: Byte) -> Asked
     ensures { result ≡ night_asked night }
 {
@@ -61,6 +65,7 @@ fn night_asked(night: Byte) -> Asked
 }
 
 // The words `text`, LINE and CHARACTERS, `log`, NIGHT and QUARTERS, or `night` and NIGHT; with any other count or word the usage is asked for.
+#[tactic(auto, unfolding(crate::specs::Words::asked_by))]
 pub fn asked_by(words: usize, what: &[u8], first: &[u8], second: &[u8]) -> Asked
     ensures { result ≡ asked_by words what.now first.now second.now }
 {

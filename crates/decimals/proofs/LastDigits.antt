@@ -33,9 +33,6 @@ last_digit_put base place last n out h room =
     ∙ before_last base place size n out (omega arith)
     ∙ ap (λ (count : ℕ). put_at place (digits_in base count n) out) one_more
 
-pub all_digits_left : (base count n place : ℕ) (out : List ℕ) → put_at place (digits_in base (place + count - place) n) out ≡ put_at place (digits_in base count n) out
-all_digits_left base count n place out = let all : place + count - place ≡ count = omega arith in rw all
-
 pub no_digits_left : (base count n place last rest : ℕ) (out now : List ℕ) → last ≤ place
     → put_at place (digits_in base (last - place) rest) now ≡ put_at place (digits_in base count n) out
     → Puts (digits_in base count n) place out (place + count) now

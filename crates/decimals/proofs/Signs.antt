@@ -1,6 +1,6 @@
 -- Laws of the sign: one byte below zero, and otherwise none.
-use Prim.Native.Nat.{ℕ, ◌<◌, ◌≤◌}
-use borrow.Author.Tests.{lt-ltb, le-ltb}
+use Prim.Native.Nat.{ℕ, ◌≤◌}
+use borrow.Author.Tests.{le-ltb}
 use lib.Dec.{ltb}
 use lib.ListN.{length}
 use mathlib.Core.List.{List, []}
@@ -9,11 +9,7 @@ use native.Mathlib.Omega.{arith}
 use Rattle.condition.proofs.Tests.{split}
 use Rattle.lent.proofs.Placed.{put_none}
 use Rattle.lent.specs.Put.{Puts}
-use Rattle.text.specs.Text.{text_of}
 use Rattle.decimals.specs.Decimals.{sign_of}
-
-pub minus_below : (a b : ℕ) → a < b → sign_of a b ≡ text_of "-"
-minus_below a b h = rw (lt-ltb a b h)
 
 pub none_from : (a b : ℕ) → b ≤ a → sign_of a b ≡ []
 none_from a b h = rw (le-ltb a b h)

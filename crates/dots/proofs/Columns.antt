@@ -5,13 +5,12 @@ use lib.Arith.{digits_lt, digits_div, digits_mod}
 use lib.ListN.{length, get_or, set, length-set}
 use lib.Seq.{get_or-set_same, get_or-set_other, ext_get_or}
 use mathlib.Core.List.{List}
-use mathlib.Core.Path.{◌≡◌, refl, ap, sym, ◌∙◌}
-use native.Mathlib.Nat.{zero-add, zero-mul, suc-mul, mul-zero, zero-lt-suc, lt_of_lt_of_le, mod-lt, div-add-mod', div-lt_iff_lt-mul, add_right_comm}
+use mathlib.Core.Path.{◌≡◌, ap, sym, ◌∙◌}
+use native.Mathlib.Nat.{suc-mul, mul-zero, zero-lt-suc, mod-lt, div-add-mod', div-lt_iff_lt-mul, add_right_comm}
 use native.Mathlib.Numerals.{add-one}
 use native.Mathlib.Omega.{arith}
 use Rattle.lent.proofs.Lists.{length_parts, length_values, parts_at, values_at}
 use Rattle.lent.specs.Lists.{values, parts}
-use Rattle.dots.specs.Promises.{Column}
 
 same_row : (s q d k e : ℕ) → d < s → e < s → q * s + d ≡ k * s + e → q ≡ k
 same_row s q d k e hd he h = sym (digits_div q hd) ∙ ap (λ (n : ℕ). n / s) h ∙ digits_div k he
@@ -27,13 +26,6 @@ pub record Filling (f : ℕ → ℕ) (rows s e : ℕ) (d out : List ℕ) (k at :
   pub drawn : (q : ℕ) → q < k → get_or out (q * s + e) 0 ≡ f q
   pub waiting : (q : ℕ) → k ≤ q → get_or out (q * s + e) 0 ≡ get_or d (q * s + e) 0
   pub kept : (q j : ℕ) → j < s → (j ≡ e → ⊥) → get_or out (q * s + j) 0 ≡ get_or d (q * s + j) 0
-
-pub column_whole : (f : ℕ → ℕ) (rows s e : ℕ) (d out : List ℕ) (k at : ℕ) → Filling f rows s e d out k at → rows ≤ k → Column f rows s e d out
-column_whole f rows s e d out k at t h = record { drawn = λ q l. t.drawn q (lt_of_lt_of_le l h); kept = t.kept }
-
-pub column_start : (f : ℕ → ℕ) (rows s e : ℕ) (d : List ℕ) → Filling f rows s e d d 0 e
-column_start f rows s e d =
-    record { counted = omega arith; placed = rw zero-mul (sym (zero-add e)); long = refl; drawn = λ q l. omega arith; waiting = λ q l. refl; kept = λ q j l n. refl }
 
 module _ (f : ℕ → ℕ) (rows s e : ℕ) (d out : List ℕ) (k at : ℕ) (t : Filling f rows s e d out k at) (h : k < rows) (he : e < s) (l : length d ≡ rows * s) where
   pub column_room : at < length out
@@ -58,19 +50,6 @@ pub record Columns (f : ℕ → ℕ → ℕ) (rows s : ℕ) (d out : List ℕ) (
   pub counted : k ≤ s
   pub long : length out ≡ length d
   pub drawn : (j : ℕ) → j < k → (q : ℕ) → q < rows → get_or out (q * s + j) 0 ≡ f j q
-
-pub columns_start : (f : ℕ → ℕ → ℕ) (rows s : ℕ) (d : List ℕ) → Columns f rows s d d 0
-columns_start f rows s d = record { counted = omega arith; long = refl; drawn = λ j l. omega arith }
-
-pub columns_next : (f : ℕ → ℕ → ℕ) (rows s : ℕ) (d out after : List ℕ) (k : ℕ) → Columns f rows s d out k → k < s → length after ≡ length out
-    → Column (f k) rows s k out after
-    → Columns f rows s d after (k + 1)
-columns_next f rows s d out after k t h l c =
-    record {
-      counted = omega arith;
-      long = l ∙ t.long;
-      drawn = below_more _ _ (λ j hj q hq. c.kept q j (omega arith) (λ e. omega arith) ∙ t.drawn j hj q hq) c.drawn;
-    }
 
 some : (n s i : ℕ) → i < n * s → 0 < s
 some n zero i h = let e : n * 0 ≡ 0 = mul-zero n in omega arith

@@ -34,11 +34,6 @@ unfolding lines_of most_digits shown_on
 from_end One s line d h hs l m = omega arith
 from_end Two s line d h hs l m = omega arith
 
-pub lines_fit : (lines : LineMode) (line : ℕ) → line < lines_of lines → 40 * line + most_digits lines ≤ 80
-unfolding lines_of most_digits
-lines_fit One line h = omega arith
-lines_fit Two line h = omega arith
-
 -- ---- addresses
 line_address_lem : (lines : LineMode) (line place : ℕ) → line < lines_of lines → place < most_digits lines → (address_of lines (cell (40 * line + place))).0 ≡ head_address lines line + place
 unfolding lines_of most_digits address_of head_address

@@ -4,6 +4,7 @@ ghost use Rattle.dots.specs.Promises.{Column};
 ghost use Rattle.dots.specs.Dots.{image_size, pattern_of};
 
 // Codes 10 to FF hex take the ROM's byte, codes 00 to 0F character memory's.
+#[tactic(auto, unfolding(crate::specs::Dots::pattern_of, crate::specs::Dots::character_at))]
 fn pattern(character: &[u8; 64], rom: &[u8], rows: usize, code: u8, row: usize) -> u8
     requires { (length rom.now ≡ image_size) × (row < rows) × (rows ≤ 11) }
     ensures { result ≡ pattern_of character.now rom.now rows code row }

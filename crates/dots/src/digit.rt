@@ -8,6 +8,7 @@ use counters::address::Cell;
 use counters::shift::Shift;
 
 // As the sheet draws it: up to the end of the line, then from its start again. With one line there is line 0 alone.
+#[tactic(auto, unfolding(size::specs::Size::most_digits, size::specs::Size::lines_of, crate::specs::Digit::shown_on))]
 pub(crate) fn shown(lines: LineMode, shift: Shift, line: u8, digit: u8) -> Cell
     requires { (shift.0 < most_digits lines) × (line < lines_of lines) × (digit < most_digits lines) }
     ensures { (result ≡ shown_on lines shift line digit) × (result.0 < 80) }

@@ -40,6 +40,7 @@ fn draw_columns<'a>(
 }
 
 // Asks for a part whose display is on; writes rows x digits bytes.
+#[tactic(auto, using(size::proofs::Sizes::most_small))]
 pub fn draw_line(
     controller: Controller,
     digits: u8,

@@ -21,6 +21,7 @@ pub struct Mark {
     pub blink: bool,
 }
 
+#[tactic(auto, unfolding(crate::specs::Dots::is_dark))]
 fn is_dark(phase: Phase) -> bool
     ensures { result ≡ is_dark phase }
 {
@@ -31,6 +32,7 @@ fn is_dark(phase: Phase) -> bool
 }
 
 // The digit of a line that has this display address; where none has, the digit count.
+#[tactic(auto, using(condition::proofs::Tests::holds, counters::proofs::Laws::cell_exists, size::proofs::Sizes::most_small, size::proofs::Sizes::most_two, crate::proofs::Marks::digit_one, crate::proofs::Marks::digit_two, crate::proofs::Marks::marked_cell, crate::proofs::Marks::marked_none, crate::proofs::Marks::marked_elsewhere))]
 fn digit_at(lines: LineMode, shift: Shift, line: u8, digits: u8, address: u8) -> u8
     requires { (shift.0 < most_digits lines) × (line < lines_of lines) × (digits ≤ most_digits lines) }
     ensures { (d : ℕ) → d < digits → eqb d result ≡ eqb (address_of lines (shown_on lines shift line d)).0 address }
@@ -55,6 +57,7 @@ fn digit_at(lines: LineMode, shift: Shift, line: u8, digits: u8, address: u8) ->
 }
 
 impl Mark {
+    #[tactic(auto, unfolding(crate::specs::Dots::is_marked))]
     pub(crate) fn new(registers: Registers, phase: Phase, line: u8, digits: u8) -> Mark
         requires { (registers.shift.0 < most_digits registers.mode.lines) × (line < lines_of registers.mode.lines) × (digits ≤ most_digits registers.mode.lines) }
         ensures { (result.cursor ≡ registers.lights.cursor) × (result.blink ≡ registers.lights.blink && is_dark phase) × ((d : ℕ) → d < digits → eqb d result.digit ≡ is_marked registers (shown_on registers.mode.lines registers.shift line d)) }
@@ -71,6 +74,7 @@ impl Mark {
         }
     }
 
+    #[tactic(auto, unfolding(crate::specs::Dots::is_set))]
     pub(crate) fn sets(self, rows: usize, row: usize) -> bool
         requires { row < rows }
         ensures { result ≡ is_set self.cursor self.blink rows row }

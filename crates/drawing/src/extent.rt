@@ -11,6 +11,7 @@ use counters::LineMode;
 use size::row_count;
 use text::digit_count;
 
+#[tactic(auto, unfolding(size::specs::Size::lines_of))]
 pub(crate) fn height(mode: Mode) -> usize
     ensures { (result ≡ height_of mode) × (result < 100) }
 {
@@ -22,6 +23,7 @@ pub(crate) fn height(mode: Mode) -> usize
     }
 }
 
+#[tactic(auto, using(crate::proofs::Lengths::length_head), unfolding(crate::specs::Drawing::head_of))]
 fn head_size(form: Form, width: u16, height: u16) -> usize
     ensures { (result ≡ length (head_of form width height)) × (result ≤ 15) }
 {
@@ -31,6 +33,7 @@ fn head_size(form: Form, width: u16, height: u16) -> usize
     }
 }
 
+#[tactic(auto, unfolding(crate::specs::Promises::row_size))]
 pub(crate) fn row_size(form: Form, digits: usize) -> usize
     requires { (1 ≤ digits) × (digits ≤ 80) }
     ensures { (result ≡ row_size form digits) × (result ≤ 480) }
@@ -41,6 +44,7 @@ pub(crate) fn row_size(form: Form, digits: usize) -> usize
     }
 }
 
+#[tactic(auto, unfolding(crate::specs::Promises::gap_size))]
 pub(crate) fn gap_size(form: Form, digits: usize) -> usize
     requires { (1 ≤ digits) × (digits ≤ 80) }
     ensures { (result ≡ gap_size form digits) × (result ≤ 480) }
@@ -59,6 +63,7 @@ fn line_size(form: Form, mode: Mode, digits: usize) -> usize
     row_count(mode) * row_size(form, digits)
 }
 
+#[tactic(auto, unfolding(crate::specs::Promises::lines_size))]
 fn lines_size(form: Form, mode: Mode, digits: usize) -> usize
     requires { (1 ≤ digits) × (digits ≤ 80) }
     ensures { (result ≡ lines_size mode.lines (gap_size form digits) (rows_of mode * row_size form digits)) × (result ≤ 3 * most_drawn) }
@@ -71,6 +76,7 @@ fn lines_size(form: Form, mode: Mode, digits: usize) -> usize
     }
 }
 
+#[tactic(auto, unfolding(crate::specs::Promises::size_of))]
 pub(crate) fn byte_size(form: Form, mode: Mode, digits: usize) -> usize
     requires { (1 ≤ digits) × (digits ≤ 80) }
     ensures { result ≡ size_of form mode digits }

@@ -40,6 +40,7 @@ impl Answer {
 }
 
 // The drawing of the picture at the front of `dots`; bytes behind it stay, and a refusal writes none.
+#[tactic(auto, using(size::proofs::Sizes::digits_counted))]
 pub fn draw(form: Form, mode: Mode, digits: u8, dots: &[u8], out: &mut [u8]) -> Answer
     ensures { Drawing form mode digits dots.now out.old result out.new }
 {

@@ -13,6 +13,7 @@ use controller::registers::Mode;
 use counters::LineMode;
 use size::row_count;
 
+#[tactic(auto, using(lent::proofs::Lists::length_lent, lent::proofs::Lists::taken_whole, crate::proofs::Lengths::rest_lent), unfolding(crate::specs::Drawing::line_in))]
 fn draw_line(form: Form, rows: usize, digits: usize, dots: &[u8], line: usize, out: &mut [u8])
     requires { (1 ≤ digits) × (digits ≤ 80) × (rows ≤ 11) × (line ≤ 1) × (line * (rows * digits) + rows * digits ≤ length dots.now) × (length out.old ≡ rows * row_size form digits) }
     ensures { out.new ≡ line_in form rows digits dots.now line }
@@ -31,6 +32,7 @@ fn draw_line(form: Form, rows: usize, digits: usize, dots: &[u8], line: usize, o
 }
 
 // Two lines, and what stands between them.
+#[tactic(auto, using(lent::proofs::Returned::three_put, crate::proofs::Lengths::length_gap, crate::proofs::Lengths::length_line, crate::proofs::Lengths::rest_lent), unfolding(crate::specs::Drawing::between))]
 fn draw_two(form: Form, rows: usize, digits: usize, dots: &[u8], out: &mut [u8])
     requires { (1 ≤ digits) × (digits ≤ 80) × (rows ≤ 11) × (2 * (rows * digits) ≤ length dots.now) × (length out.old ≡ rows * row_size form digits + (gap_size form digits + rows * row_size form digits)) }
     ensures { out.new ≡ between Two (gap_in form digits) (line_in form rows digits dots.now) }
@@ -42,6 +44,7 @@ fn draw_two(form: Form, rows: usize, digits: usize, dots: &[u8], out: &mut [u8])
     draw_line(form, rows, digits, dots, 1, &mut out[next..]);
 }
 
+#[tactic(auto, unfolding(size::specs::Size::lines_of, crate::specs::Promises::lines_size, crate::specs::Drawing::between))]
 fn draw_lines(form: Form, mode: Mode, digits: usize, dots: &[u8], out: &mut [u8])
     requires { (1 ≤ digits) × (digits ≤ 80) × (bytes_of mode digits ≤ length dots.now) × (length out.old ≡ lines_size mode.lines (gap_size form digits) (rows_of mode * row_size form digits)) }
     ensures { out.new ≡ between mode.lines (gap_in form digits) (line_in form (rows_of mode) digits dots.now) }
@@ -54,6 +57,7 @@ fn draw_lines(form: Form, mode: Mode, digits: usize, dots: &[u8], out: &mut [u8]
     }
 }
 
+#[tactic(auto, using(lent::proofs::Returned::behind_put, crate::proofs::Lengths::rest_lent), unfolding(crate::specs::Promises::size_of, crate::specs::Drawing::drawing_of))]
 pub(crate) fn draw_whole(form: Form, mode: Mode, digits: usize, dots: &[u8], out: &mut [u8])
     requires { (1 ≤ digits) × (digits ≤ 80) × (bytes_of mode digits ≤ length dots.now) × (length out.old ≡ size_of form mode digits) }
     ensures { out.new ≡ drawing_of form mode digits dots.now }

@@ -7,6 +7,7 @@ ghost use Rattle.drawing.specs.Row.{width_of, is_on, mark_of, text_row, bit_at, 
 use super::form::Form;
 
 // Leftmost dot is bit 4; the sixth column of a digit is blank.
+#[tactic(auto, unfolding(crate::specs::Row::is_on))]
 fn is_on(byte: u8, column: usize) -> bool
     ensures { result ≡ is_on byte column }
 {
@@ -16,6 +17,7 @@ fn is_on(byte: u8, column: usize) -> bool
     (byte >> (4 - column)) % 2 == 1
 }
 
+#[tactic(auto, unfolding(crate::specs::Row::mark_of))]
 fn mark(byte: u8, column: usize) -> u8
     ensures { result ≡ mark_of byte column }
 {
@@ -32,6 +34,7 @@ pub(crate) fn width(digits: usize) -> usize
     6 * digits - 1
 }
 
+#[tactic(auto, using(lent::proofs::Lists::filled_start, crate::proofs::Rows::values_end), unfolding(crate::specs::Row::text_row))]
 fn draw_text(digits: usize, dots: &[u8], out: &mut [u8])
     requires { (1 ≤ digits) × (digits ≤ 80) × (digits ≤ length dots.now) × (length out.old ≡ width_of digits + 1) }
     ensures { out.new ≡ text_row digits (λ digit. get_or dots.now digit 0) }
@@ -45,6 +48,7 @@ fn draw_text(digits: usize, dots: &[u8], out: &mut [u8])
     out[width] = b'\n';
 }
 
+#[tactic(auto, unfolding(crate::specs::Row::bit_at))]
 fn bit(digits: usize, dots: &[u8], x: usize) -> u8
     requires { (1 ≤ digits) × (digits ≤ 80) × (digits ≤ length dots.now) }
     ensures { (result ≡ bit_at digits (λ digit. get_or dots.now digit 0) x) × (result ≤ 1) }
@@ -56,6 +60,7 @@ fn bit(digits: usize, dots: &[u8], x: usize) -> u8
 }
 
 // The eight columns from x on, the leftmost in the highest bit.
+#[tactic(auto, using(crate::proofs::Rows::below_128, crate::proofs::Rows::packed_small, crate::proofs::Rows::packed_next), unfolding(crate::specs::Row::packed))]
 fn eight(digits: usize, dots: &[u8], x: usize) -> u8
     requires { (1 ≤ digits) × (digits ≤ 80) × (digits ≤ length dots.now) × (x ≤ 480) }
     ensures { result ≡ packed 8 (λ n. bit_at digits (λ digit. get_or dots.now digit 0) (x + n)) }
@@ -69,6 +74,7 @@ fn eight(digits: usize, dots: &[u8], x: usize) -> u8
     byte
 }
 
+#[tactic(auto, using(lent::proofs::Lists::filled_start, lent::proofs::Lists::filled_whole), unfolding(crate::specs::Row::image_row))]
 fn draw_bits(digits: usize, dots: &[u8], out: &mut [u8])
     requires { (1 ≤ digits) × (digits ≤ 80) × (digits ≤ length dots.now) × (length out.old ≡ (width_of digits + 7) / 8) }
     ensures { out.new ≡ image_row digits (λ digit. get_or dots.now digit 0) }
@@ -81,6 +87,7 @@ fn draw_bits(digits: usize, dots: &[u8], out: &mut [u8])
 }
 
 // The row at the front of `dots`.
+#[tactic(auto, unfolding(crate::specs::Promises::row_size))]
 pub(crate) fn draw_row(form: Form, digits: usize, dots: &[u8], out: &mut [u8])
     requires { (1 ≤ digits) × (digits ≤ 80) × (digits ≤ length dots.now) × (length out.old ≡ row_size form digits) }
     ensures { out.new ≡ row_in form digits (λ digit. get_or dots.now digit 0) }
@@ -92,6 +99,7 @@ pub(crate) fn draw_row(form: Form, digits: usize, dots: &[u8], out: &mut [u8])
 }
 
 // What stands between the two lines of the picture.
+#[tactic(auto, using(crate::proofs::Rows::set_only), unfolding(crate::specs::Promises::gap_size, crate::specs::Promises::row_size, crate::specs::Drawing::gap_in))]
 pub(crate) fn draw_gap(form: Form, digits: usize, out: &mut [u8])
     requires { (1 ≤ digits) × (digits ≤ 80) × (length out.old ≡ gap_size form digits) }
     ensures { out.new ≡ gap_in form digits }

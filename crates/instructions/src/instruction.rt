@@ -36,7 +36,6 @@ fn line_mode(two: bool) -> LineMode
     if two { LineMode::Two } else { LineMode::One }
 }
 
-#[tactic(auto, using(crate::proofs::Decoded::decoded_by_range), unfolding(crate::specs::Instructions::bit))]
 pub fn decode(byte: u8) -> Instruction
     ensures { result ≡ decode_of byte }
 {

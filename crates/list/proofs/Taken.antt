@@ -47,7 +47,7 @@ module _ (r : Registers) (events : List ℕ) (room : ℕ) where
 pub list_runnable : (c : Controller) (events answers : List ℕ) → answer_for c.registers events (length answers) ≡ 0 → Runnable c events answers
 list_runnable c events answers e =
     let taken = list_taken c.registers events (length answers) e in
-    record { in_range_lem = taken.0; whole = taken.2; room = omega (arith, taken.1, taken.2) }
+    record { ranged = taken.0; whole = taken.2; room = omega (arith, taken.1, taken.2) }
 
 -- ---- what a list that is done leaves
 

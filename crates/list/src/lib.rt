@@ -14,7 +14,7 @@ use refusals::answer_to;
 use run::run_events;
 
 // What a list comes to.
-#[derive(Drop)]
+#[derive(Clone, Copy)]
 pub struct Outcome {
     pub controller: Controller,
     pub answer: Answer,
@@ -42,6 +42,7 @@ pub fn run_by_value(controller: Controller, events: &[u8], answers: &mut [u8]) -
 }
 
 // The answer is that of the refusals.
+#[tactic(auto, using(crate::proofs::Taken::list_runnable, crate::proofs::Taken::done_leaves, crate::proofs::Taken::done_answers))]
 fn run_unless_refused(
     controller: Controller,
     answer: Answer,

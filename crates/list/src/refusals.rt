@@ -8,6 +8,7 @@ use controller::Controller;
 use record::front_length;
 
 // 16, 6, then 9; all events are looked at before the first is run.
+#[tactic(auto, using(record::proofs::FrontEvents::count_few, crate::proofs::Tested::refused_range, crate::proofs::Tested::refused_room, crate::proofs::Tested::refused_events, crate::proofs::Tested::none_refused))]
 pub(crate) fn answer_to(controller: Controller, events: &[u8], room: usize) -> Answer
     ensures { number_of result ≡ answer_for controller.registers events.now room }
 {

@@ -1,7 +1,6 @@
 pub mod Kept
 pub mod Written
 pub mod Answers
-pub mod Refused
 pub mod Exactly
 pub mod Settled
 pub mod Longest

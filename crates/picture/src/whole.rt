@@ -8,6 +8,7 @@ use controller::Controller;
 use dots::{Phase, draw_line};
 use size::{line_count, row_count};
 
+#[tactic(auto, using(lent::proofs::Lists::length_parts, lent::proofs::Lists::length_values, lent::proofs::Lists::length_lent, lent::proofs::Lists::taken_next, lent::proofs::Lists::taken_whole), unfolding(dots::specs::Dots::line_of, crate::specs::Picture::picture_of))]
 fn draw_lines(controller: Controller, digits: u8, rom: &[u8], phase: Phase, out: &mut [u8])
     requires { (Drawable controller digits (length rom.now)) × (controller.registers.lights.display ≡ true) × (length out.old ≡ bytes_of controller.registers.mode digits) }
     ensures { out.new ≡ picture_of controller digits rom.now phase }
@@ -37,6 +38,7 @@ fn blank(out: &mut [u8])
     }
 }
 
+#[tactic(auto, using(crate::proofs::Lines::off_dots))]
 pub(crate) fn draw(controller: Controller, digits: u8, rom: &[u8], phase: Phase, out: &mut [u8])
     requires { (Drawable controller digits (length rom.now)) × (length out.old ≡ bytes_of controller.registers.mode digits) }
     ensures { out.new ≡ picture_of controller digits rom.now phase }

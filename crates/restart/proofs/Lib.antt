@@ -1,3 +1,4 @@
+pub mod Firsts
 pub mod Two
 pub mod Leads
 pub mod Restarting

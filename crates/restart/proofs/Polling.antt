@@ -42,7 +42,7 @@ module _ (c : Controller) (t : T (in_range c.registers)) (calm : Calm c.register
   unfolding halfway on_four first_half display_after character_after
   first_poll n =
       ap (λ (x : Told). x.controller) (transfer_steps c StatusRead n t)
-      ∙ ap (λ (s : Result). (carried c s).controller) (four_acts c.registers StatusRead n (addressed c) (status_free c.registers) Half.Nothing calm.four calm.no_half_lem)
+      ∙ ap (λ (s : Result). (carried c s).controller) (four_acts c.registers StatusRead n (addressed c) (status_free c.registers) Half.Nothing calm.four calm.nothing_waits)
 
   halfway_in_range : T (in_range (halfway c).registers)
   unfolding told_by
@@ -54,7 +54,7 @@ module _ (c : Controller) (t : T (in_range c.registers)) (calm : Calm c.register
       ap (λ (x : Told). x.controller) (transfer_steps (halfway c) StatusRead n halfway_in_range)
       ∙ ap (λ (s : Result). (carried (halfway c) s).controller)
       (four_acts (halfway c).registers StatusRead n (addressed (halfway c)) (status_free (halfway c).registers) (Half.Waiting StatusRead 0) calm.four refl)
-      ∙ ap (λ (h : Half). with c.display c.character (awaiting c.registers h c.registers.busy)) (sym calm.no_half_lem)
+      ∙ ap (λ (h : Half). with c.display c.character (awaiting c.registers h c.registers.busy)) (sym calm.nothing_waits)
 
   poll_changes_nothing : (n m : ℕ) → (transfer_of (transfer_of c StatusRead n).controller StatusRead m).controller ≡ c
   poll_changes_nothing n m = ap (λ (x : Controller). (transfer_of x StatusRead m).controller) (first_poll n) ∙ second_poll m
@@ -62,7 +62,7 @@ module _ (c : Controller) (t : T (in_range c.registers)) (calm : Calm c.register
 -- ---- polls and waits
 waited_calm : (c : Controller) (n : ℕ) → T (in_range c.registers) → Calm c.registers → Calm (wait_of c n).controller.registers
 unfolding waited
-waited_calm c n t calm = subst⁻¹ (λ (x : Told). Calm x.controller.registers) (waited_told_lem c n t) (record { four = calm.four; no_half_lem = calm.no_half_lem })
+waited_calm c n t calm = subst⁻¹ (λ (x : Told). Calm x.controller.registers) (waited_told_lem c n t) (record { four = calm.four; nothing_waits = calm.nothing_waits })
 
 pub polls_are_waits : PollsAreWaits
 unfolding pause_events pause_ticks after_events told_by waits

@@ -196,7 +196,7 @@ restart_leads r t = head_leads Restarted (drop 4 halves) bytes_lead r.bus r.half
 
 -- ---- behind 3, 3, 3, 2 and behind each byte the part is on four lines, and no half waits
 calm : (i : ℕ) (r : Registers) → r.bus ≡ Four → r.half ≡ Half.Nothing → To Calm i [] r
-calm i r e f = arrived Calm i r (record { four = e; no_half_lem = f })
+calm i r e f = arrived Calm i r (record { four = e; nothing_waits = f })
 
 calm_bytes : (bytes : ℕ) (r : Registers) → bytes ≤ 4 → r.bus ≡ Four → r.half ≡ Half.Nothing → To Calm 4 (take (2 * bytes) (drop 4 halves)) r
 unfolding decode bit rearranged obey

@@ -32,7 +32,7 @@ module _ (value : ℕ) (small : value ≤ 255) where
   two = ap (λ (found : Option Event). Wait 3750 ∷ before found []) written
 
   pub two_runnable : (c : Controller) (answers : List ℕ) → in_range c.registers ≡ true → 6 ≤ length answers → Runnable c bytes answers
-  two_runnable c answers ranged room = record { in_range_lem = ranged; whole = rw two refl; room = rw two room }
+  two_runnable c answers ranged room = record { ranged = ranged; whole = rw two refl; room = rw two room }
 
   pub two_leave : (c after : Controller) → in_range c.registers ≡ true → after ≡ after_events (front_events bytes) c
       → (after ≡ after_events (Wait 3750 ∷ Transfer InstructionWrite value ∷ []) c) × (in_range after.registers ≡ true)

@@ -30,7 +30,7 @@ pause_ticks (Ticks n ∷ ps) = n ∷ pause_ticks ps
 -- four lines, and no half waits
 pub record Calm (r : Registers) : Type 0 where
   pub four : r.bus ≡ LineCount.Four
-  pub no_half_lem : r.half ≡ Half.Nothing
+  pub nothing_waits : r.half ≡ Half.Nothing
 
 -- on four lines with no half waiting, a client that polls and waits leaves the part as one that only waits
 abbrev pub PollsAreWaits : Type 0

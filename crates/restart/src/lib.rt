@@ -12,6 +12,7 @@ use controller::answer::Answer;
 use run::run_events;
 
 // One write of the restart, after the busy time: a list of two events.
+#[tactic(auto, using(crate::proofs::Two::two_leave, crate::proofs::Two::two_told))]
 fn write(controller: Controller, upper: u8, lower: u8) -> Controller
     requires { (upper ≤ 15) × (in_range controller.registers ≡ true) }
     ensures { (result ≡ (told_of upper (patiently (lower % 16)) controller).controller) × (in_range result.registers ≡ true) }
@@ -34,6 +35,7 @@ fn write(controller: Controller, upper: u8, lower: u8) -> Controller
 const UPPER: [u8; 12] = [0x3, 0x3, 0x3, 0x2, 0x2, 0x8, 0x0, 0x8, 0x0, 0x2, 0x0, 0x6];
 
 // The lower four lines of each write are the caller's: of each number the low half counts.
+#[tactic(auto, using(crate::proofs::Firsts::upper_small), unfolding(crate::specs::Writes::restart_of))]
 pub fn restart(controller: Controller, lower: [u8; 12]) -> Outcome
     ensures { told result ≡ restart_of controller (lower_lines lower) }
 {

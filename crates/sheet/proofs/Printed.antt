@@ -1,16 +1,11 @@
 -- What an answer prints, by what it is, and what its lines ask.
 use Prim.Native.Nat.{ℕ, ◌≤◌}
-use denote.Enum.Declared.{tag_of, declared}
 use lib.Dec.{T, lit≤}
 use lib.Ieee.{is_nan}
 use mathlib.Core.Bool.{not}
-use mathlib.Core.Logic.{◌⊎◌, ⊎_elim}
 use mathlib.Core.Path.{◌≡◌, refl, subst⁻¹}
-use native.Mathlib.Omega.{arith}
 use Rattle.text.specs.Text.{refused_of}
-use Rattle.voltages.specs.contracts.Answer.{enum}
 use Rattle.voltages.proofs.Answers.{done_told}
-use Rattle.voltages.proofs.Exact.{in_range_lem}
 use Rattle.voltages.proofs.Ladder.{voltages_are_numbers}
 use Rattle.voltages.specs.Answers.{number_of, answer_of, has_vdd, has_span}
 use Rattle.voltages.specs.Voltages.{step_of, divisor_of, steps_of}
@@ -19,12 +14,12 @@ use Rattle.voltages.specs.declared.Answer.TheVariants.{Done, BadVdd, BadSpan}
 use Rattle.voltages.specs.declared.Bias.{Bias}
 use Rattle.voltages.specs.declared.Bias.TheVariants.{Quarter, Fifth}
 use Rattle.voltages.specs.declared.Steps.{Steps}
-use Rattle.sheet.specs.Promises.{AllNumbers, Formulas}
+use Rattle.sheet.specs.Promises.{AllNumbers}
 use Rattle.sheet.specs.Sheet.{printed_for}
 
-pub refused_printed : (vdd span : ℕ) (r : Answer) → (tag_of (declared enum) r ≡ 1) ⊎ (tag_of (declared enum) r ≡ 2) → printed_for vdd span r ≡ refused_of (number_of r)
+pub refused_printed : (vdd span : ℕ) (r : Answer) → ((steps : Steps) → r ≡ Done steps → ⊥) → printed_for vdd span r ≡ refused_of (number_of r)
 unfolding printed_for
-refused_printed vdd span (Done steps) h = absurd (⊎_elim (λ e. omega arith) (λ e. omega arith) h)
+refused_printed vdd span (Done steps) h = absurd (h steps refl)
 refused_printed vdd span BadVdd h = refl
 refused_printed vdd span BadSpan h = refl
 
@@ -40,17 +35,3 @@ pub lines_asked : (vdd span : ℕ) (bias : Bias) (steps : Steps) → Done steps 
 lines_asked vdd span bias steps e =
     let told = done_told vdd span bias steps e in
     (told.0, told.1, subst⁻¹ AllNumbers told.2 (all_numbers vdd span bias told.0 told.1))
-
-pub formulas_of : (vdd span : ℕ) (bias : Bias) → T (has_vdd vdd) → T (has_span span) → Formulas (divisor_of bias) vdd span
-formulas_of vdd span bias hv hs k hk =
-    record {
-      from_four = (four_or_five bias).0;
-      to_five = (four_or_five bias).1;
-      vdd_fits = (in_range_lem 288 352 vdd hv).1;
-      span_fits = (in_range_lem 192 512 span hs).1;
-      to_four_steps = hk;
-    }
-  where
-    four_or_five : (bias : Bias) → (4 ≤ divisor_of bias) × (divisor_of bias ≤ 5)
-    four_or_five Quarter = (lit≤ tt, lit≤ tt)
-    four_or_five Fifth = (lit≤ tt, lit≤ tt)

@@ -15,7 +15,7 @@ use Rattle.lent.specs.Buffer.{over}
 use Rattle.state.specs.State.{state_bytes, registers_put, put_of}
 use Rattle.state.specs.Taken.{registers_read, put_again, read_off, is_state, taken_of, answer_taken, controller_taken}
 use Rattle.state.specs.Theorems.{Held}
-use Rattle.state.proofs.Same.{same_bytes_lem}
+use Rattle.state.proofs.Compared.{same_bytes_lem}
 
 -- ---- bytes that are put
 

@@ -1,4 +1,4 @@
-pub mod Same
+pub mod Compared
 pub mod Back
 pub mod Lengths
 pub mod Promise

@@ -18,10 +18,9 @@ use Rattle.lent.specs.Buffer.{over}
 use Rattle.lent.specs.Put.{put_at, Puts}
 use Rattle.state.specs.Answers.{number_of}
 use Rattle.state.specs.State.{registers_put, put_of}
-use Rattle.state.specs.Taken.{registers_read, read_off, put_again, is_state, taken_of, answer_for, Putting, Taking}
+use Rattle.state.specs.Taken.{registers_read, read_off, same_bytes, put_again, is_state, taken_of, answer_for, Putting, Taking}
 use Rattle.state.specs.declared.Taken.{Taken}
 use Rattle.state.specs.declared.answer.Answer.TheVariants.{Done, ShortBuffer}
-use Rattle.state.proofs.Same.{same_told}
 
 -- ---- put
 
@@ -55,20 +54,15 @@ put_done c out left t h et e =
 -- what the tests tell
 pub state_told : (bytes part again : List ℕ) (registers : Registers) (same ranged : Bool) → length bytes ≡ 159
     → registers ≡ registers_read bytes → again ≡ registers_put registers → part ≡ take (length bytes - 144) (drop 144 bytes)
-    → (same ≡ true → part ≡ again) × (part ≡ again → same ≡ true)
-    → ranged ≡ in_range registers → same && ranged ≡ is_state bytes
+    → same ≡ same_bytes part again → ranged ≡ in_range registers → same && ranged ≡ is_state bytes
 unfolding is_state put_again
 state_told bytes part again registers same ranged l er ea ep s t =
     let whole : part ≡ drop 144 bytes = ep ∙ take_all (length bytes - 144) (drop 144 bytes) (omega (arith, length-drop 144 bytes)) in
-    rw (eq-eqb (length bytes) 159 l, ← er, ← ea, ← whole, t) (ap (λ (b : Bool). b && in_range registers) (same_told same part again s))
+    rw (eq-eqb (length bytes) 159 l, ← er, ← ea, ← whole, t) (ap (λ (b : Bool). b && in_range registers) s)
 
 pub other_length : (bytes : List ℕ) → (length bytes ≡ 159 → ⊥) → is_state bytes ≡ false
 unfolding is_state
 other_length bytes h = simp (ne_eqb _ _ h)
-
--- the memories, each by itself
-pub with_same : {d d' m m' : List ℕ} (r : Registers) → d ≡ d' → m ≡ m' → with d m r ≡ with d' m' r
-with_same r e f i = with (e i) (f i) r
 
 -- what each answer tells
 module _ (bytes : List ℕ) where

@@ -15,7 +15,7 @@ use Rattle.state.specs.Theorems.{TakenExactly, PutTaken, PutAlone, PutGivenExact
 use Rattle.state.specs.declared.Taken.{Taken}
 use Rattle.state.proofs.Back.{put_behind, registers_again, back}
 use Rattle.state.proofs.Lengths.{put_length, taken_held}
-use Rattle.state.proofs.Same.{bytes_same}
+use Rattle.state.proofs.Compared.{bytes_same}
 
 pub put_taken : PutTaken
 unfolding taken_of is_state put_again

@@ -7,15 +7,13 @@ ghost use Rattle.lent.specs.Buffer.{over};
 ghost use Rattle.lent.specs.Put.{put_at};
 ghost use Rattle.state.specs.Answers.{number_of};
 ghost use Rattle.state.specs.State.{state_bytes};
-ghost use Rattle.state.specs.Taken.{Putting, Taking};
+ghost use Rattle.state.specs.Taken.{same_bytes, Putting, Taking};
 
 mod answer;
 mod putting;
 mod reading;
 
 pub use answer::Answer;
-use bytes::copy;
-use check::same;
 use controller::Controller;
 use controller::registers::Registers;
 use putting::registers_put;
@@ -26,7 +24,7 @@ pub const BYTES: usize = 159;
 // The bytes of the two memories.
 const MEMORIES: usize = 144;
 
-#[derive(Drop)]
+#[derive(Clone, Copy)]
 pub struct Taken {
     pub answer: Answer,
     // The part just switched on beside a refusal.
@@ -38,7 +36,7 @@ fn put_at(bytes: &[u8], place: usize, out: &mut [u8])
     requires { place + length bytes.now ≤ length out.old }
     ensures { out.new ≡ put_at place bytes.now out.old }
 {
-    copy(bytes, &mut out[place..]);
+    out[place..place + bytes.len()].copy_from_slice(bytes);
 }
 
 // The three parts one behind the other; the bytes behind them stay.
@@ -71,9 +69,9 @@ fn with_memories(bytes: &[u8], registers: Registers) -> Controller
     ensures { result ≡ with (take 80 bytes.now) (take 64 (drop 80 bytes.now)) registers }
 {
     let mut display = [0u8; 80];
-    copy(&bytes[0..80], &mut display);
+    display.copy_from_slice(&bytes[0..80]);
     let mut character = [0u8; 64];
-    copy(&bytes[80..MEMORIES], &mut character);
+    character.copy_from_slice(&bytes[80..MEMORIES]);
     Controller {
         display,
         character,
@@ -88,6 +86,12 @@ fn refused() -> Taken
         answer: Answer::NotInRange,
         controller: Controller::switched_on(),
     }
+}
+
+fn same(first: &[u8], second: &[u8]) -> bool
+    ensures { result ≡ same_bytes first.now second.now }
+{
+    first == second
 }
 
 // Only what is put is taken: the registers that were read must be put as the very bytes, and be in range.

@@ -57,6 +57,7 @@ fn upper_number(half: Half) -> u8
     }
 }
 
+#[tactic(auto, using(condition::proofs::Flag::flag_number_lem), unfolding(crate::specs::State::registers_put))]
 pub(crate) fn registers_put(registers: Registers) -> [u8; 15]
     ensures { result ≡ registers_put registers }
 {

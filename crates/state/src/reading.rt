@@ -93,6 +93,7 @@ fn word(high: u8, low: u8) -> u16
     (high as u16) * 256 + (low as u16)
 }
 
+#[tactic(auto, unfolding(crate::specs::Taken::registers_read))]
 pub(crate) fn registers_of(bytes: &[u8]) -> Registers
     requires { length bytes.now ≡ state_bytes }
     ensures { result ≡ registers_read bytes.now }

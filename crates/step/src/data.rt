@@ -10,6 +10,7 @@ use counters::counter::Counter;
 use counters::shift::Shift;
 
 // A write to display memory moves the display where shift on write is set.
+#[tactic(auto, using(condition::proofs::Tests::met), unfolding(crate::specs::Data::shift_after))]
 pub(crate) fn shift_after(registers: Registers) -> Shift
     ensures { result ≡ shift_after registers.counter registers }
 {
@@ -53,6 +54,7 @@ pub(crate) fn stepped_to(registers: Registers, shift: Shift) -> Stepped
 }
 
 // 128 if busy, plus the address.
+#[tactic(auto, using(condition::proofs::Tests::holds, counters::proofs::Laws::number_below), unfolding(crate::specs::Data::status_of))]
 pub(crate) fn status(registers: Registers) -> u8
     requires { has_counter registers.mode.lines registers.counter ≡ true }
     ensures { result ≡ status_of registers }

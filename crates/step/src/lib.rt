@@ -20,6 +20,7 @@ use instructions::instruction::decode;
 use instructions::obey::obey;
 
 // A whole byte, as on eight lines; no half waits any more.
+#[tactic(auto, using(controller::proofs::Ranged::counter_exists))]
 fn act(
     display: &mut [u8; 80],
     character: &mut [u8; 64],
@@ -67,6 +68,7 @@ fn act(
 }
 
 // What the first half of a byte answers: the upper half of the value read.
+#[tactic(auto, using(controller::proofs::Ranged::counter_exists), unfolding(crate::specs::Data::read_of))]
 fn upper_read(display: &[u8; 80], character: &[u8; 64], registers: Registers, kind: Kind) -> u8
     requires { in_range registers ≡ true }
     ensures { result ≡ upper (read_from (with display.now character.now registers) kind) * 16 }
@@ -80,6 +82,7 @@ fn upper_read(display: &[u8; 80], character: &[u8; 64], registers: Registers, ki
 }
 
 // Only a status read is taken while the part is busy.
+#[tactic(auto, unfolding(crate::specs::Step::refused_busy))]
 pub fn refused_busy(registers: Registers, kind: Kind) -> bool
     ensures { result ≡ refused_busy registers kind }
 {
@@ -87,6 +90,7 @@ pub fn refused_busy(registers: Registers, kind: Kind) -> bool
 }
 
 // A transfer that is not refused with 1.
+#[tactic(auto, using(controller::proofs::Ranged::upper_small, controller::proofs::Ranged::unhalved_in_range))]
 pub fn step(
     display: &mut [u8; 80],
     character: &mut [u8; 64],

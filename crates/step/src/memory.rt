@@ -7,6 +7,7 @@ use controller::registers::Registers;
 use counters::counter::Counter;
 
 // The byte that the counter addresses.
+#[tactic(auto, using(crate::proofs::Stored::cell_below, crate::proofs::Stored::character_below, crate::proofs::Stored::cell_read, crate::proofs::Stored::character_read))]
 pub(crate) fn addressed(display: &[u8; 80], character: &[u8; 64], registers: Registers) -> u8
     requires { has_counter registers.mode.lines registers.counter ≡ true }
     ensures { result ≡ byte_at registers.mode.lines registers.counter display.now character.now }
@@ -28,6 +29,7 @@ pub(crate) fn addressed(display: &[u8; 80], character: &[u8; 64], registers: Reg
 }
 
 // A byte stored where the counter points.
+#[tactic(auto, using(crate::proofs::Stored::cell_below, crate::proofs::Stored::character_below))]
 pub(crate) fn store(
     display: &mut [u8; 80],
     character: &mut [u8; 64],

@@ -11,6 +11,7 @@ use record::word;
 use run::{run_events, started};
 
 // Of events that have been run, and what each was answered, where its own three bytes stand.
+#[tactic(auto, using(lent::proofs::Placed::awaits_all, crate::proofs::Turns::narrow_on, crate::proofs::Turns::lines_end))]
 fn put_answered(events: &[u8], answers: &[u8], place: usize, out: &mut [u8]) -> usize
     requires { Printable events.now answers.now × (place + line_bytes * most_events ≤ length out.old) }
     ensures { Puts (lines_of 1 events.now answers.now) place out.old result out.new }
@@ -37,6 +38,7 @@ fn put_answered(events: &[u8], answers: &[u8], place: usize, out: &mut [u8]) -> 
 }
 
 // Of a sound record.
+#[tactic(auto, using(record::proofs::Sound::sound))]
 pub(crate) fn put_lines(bytes: &[u8], place: usize, out: &mut [u8]) -> usize
     requires { (check_of bytes.now ≡ 0) × (place + line_bytes * most_events ≤ length out.old) }
     ensures { Puts (event_lines 1 (events_of bytes.now) started_from) place out.old result out.new }

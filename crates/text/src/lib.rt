@@ -20,7 +20,7 @@ pub fn put_text(text: &[u8], place: usize, out: &mut [u8]) -> usize
 }
 
 // How many digits a number has.
-#[tactic(auto, using(crate::proofs::Decimal::one_digit, crate::proofs::Decimal::digits_are))]
+#[tactic(auto, using(crate::proofs::Decimal::one_digit))]
 pub fn digit_count(n: u16) -> usize
     ensures { (result ≡ length (decimal_of n)) × (1 ≤ result) × (result ≤ 5) }
 {
@@ -47,7 +47,7 @@ fn digit(n: u16) -> u8
 }
 
 // The digits of a number, the last one first.
-#[tactic(auto, using(crate::proofs::Decimal::one_digit, crate::proofs::Decimal::more_digits, crate::proofs::Decimal::digits_from, crate::proofs::Decimal::digit_turn, crate::proofs::Decimal::digit_last))]
+#[tactic(auto, using(crate::proofs::Decimal::one_digit, crate::proofs::Decimal::digit_last))]
 fn put_decimal(n: u16, place: usize, out: &mut [u8]) -> usize
     requires { place + length (decimal_of n) ≤ length out.old }
     ensures { Puts (decimal_of n) place out.old result out.new }
@@ -65,7 +65,6 @@ fn put_decimal(n: u16, place: usize, out: &mut [u8]) -> usize
 }
 
 // A number, and the byte that ends it.
-#[tactic(auto, using(lent::proofs::Placed::puts_one, lent::proofs::Placed::puts_then))]
 pub fn put_number(n: u16, mark: u8, place: usize, out: &mut [u8]) -> usize
     requires { place + length (decimal_of n) < length out.old }
     ensures { Puts (decimal_of n ++ (mark ∷ [])) place out.old result out.new }
@@ -76,7 +75,6 @@ pub fn put_number(n: u16, mark: u8, place: usize, out: &mut [u8]) -> usize
 }
 
 // A name, and a number behind it with the byte that ends it.
-#[tactic(auto, using(lent::proofs::Placed::puts_then))]
 pub fn put_named(name: &[u8], n: u16, mark: u8, place: usize, out: &mut [u8]) -> usize
     requires { place + length name.now + length (decimal_of n) < length out.old }
     ensures { Puts (name.now ++ (decimal_of n ++ (mark ∷ []))) place out.old result out.new }
@@ -86,7 +84,7 @@ pub fn put_named(name: &[u8], n: u16, mark: u8, place: usize, out: &mut [u8]) ->
 }
 
 // What a program prints for a refusal.
-#[tactic(auto, using(crate::proofs::Decimal::digits_below), unfolding(crate::specs::Text::refused_of))]
+#[tactic(auto, unfolding(crate::specs::Text::refused_of))]
 pub fn put_refused(number: u8, out: &mut [u8]) -> usize
     requires { 12 ≤ length out.old }
     ensures { Puts (refused_of number) 0 out.old result out.new }

@@ -13,6 +13,7 @@ pub fn trestlecap_switch_on(state: &mut [u8]) -> u8
     put(Controller::switched_on(), state).number()
 }
 
+#[tactic(auto, using(state::proofs::Lengths::taken_length, crate::proofs::Held::held))]
 pub fn trestlecap_run_list(state: &mut [u8], events: &[u8], answers: &mut [u8]) -> u8
     ensures { RunningList state.old events.now answers.old result state.new answers.new }
 {
@@ -28,6 +29,7 @@ pub fn trestlecap_run_list(state: &mut [u8], events: &[u8], answers: &mut [u8]) 
 }
 
 // Zeros on the lower lines.
+#[tactic(auto, using(state::proofs::Lengths::taken_length, crate::proofs::Held::held))]
 pub fn trestlecap_restart(state: &mut [u8]) -> u8
     ensures { Restarting state.old result state.new }
 {

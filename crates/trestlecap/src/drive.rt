@@ -4,6 +4,7 @@ ghost use Rattle.trestlecap.specs.Called.{Driving};
 
 use voltages::{Answer, Bias, Steps, voltages};
 
+#[tactic(auto, using(crate::proofs::Driven::driven, crate::proofs::Driven::quarter_has_three))]
 pub fn trestlecap_quarter_bias(vdd: u16, span: u16, volts: &mut [f32; 3]) -> u8
     ensures { Driving vdd span Bias.Quarter volts.old result volts.new }
 {
@@ -20,6 +21,7 @@ pub fn trestlecap_quarter_bias(vdd: u16, span: u16, volts: &mut [f32; 3]) -> u8
     }
 }
 
+#[tactic(auto, using(crate::proofs::Driven::driven, crate::proofs::Driven::fifth_has_four))]
 pub fn trestlecap_fifth_bias(vdd: u16, span: u16, volts: &mut [f32; 4]) -> u8
     ensures { Driving vdd span Bias.Fifth volts.old result volts.new }
 {

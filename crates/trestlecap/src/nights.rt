@@ -11,6 +11,7 @@ use calls::Call;
 use state::take;
 
 // What a call leaves is put back, and its wrap said, unless it was refused; its number is handed on.
+#[tactic(auto, using(condition::proofs::Flag::flag_number_lem))]
 fn made(outcome: Outcome, state: &mut [u8], wrap: &mut u8) -> u8
     requires { length state.old ≡ state_bytes }
     ensures { Made outcome state.old wrap.old result state.new wrap.new }
@@ -25,6 +26,7 @@ fn made(outcome: Outcome, state: &mut [u8], wrap: &mut u8) -> u8
 }
 
 // A text or a night logged, of the controller that the bytes hold.
+#[tactic(auto, using(state::proofs::Lengths::taken_length, crate::proofs::Held::held))]
 fn panel_call(state: &mut [u8], call: Call, characters: &[u8], wrap: &mut u8) -> u8
     ensures { MakingCall state.old call characters.now wrap.old result state.new wrap.new }
 {
@@ -49,6 +51,7 @@ pub fn trestlecap_log_night(state: &mut [u8], night: u8, quarters: u8, wrap: &mu
     panel_call(state, Call::Log(night, quarters), b"", wrap)
 }
 
+#[tactic(auto, using(crate::proofs::Held::none_held, crate::proofs::Held::sixteen, crate::proofs::Held::number_none))]
 pub fn trestlecap_look_up(state: &[u8], night: u8, written: &mut u8, quarters: &mut u8) -> u8
     ensures { LookingUp state.now night written.old quarters.old result written.new quarters.new }
 {

@@ -3,6 +3,7 @@ ghost use Rattle.trestlecap.specs.Called.{MendingRecord};
 
 use mending::{Answer, mend};
 
+#[tactic(auto, using(crate::proofs::Mended::mended_said, crate::proofs::Mended::not_mended))]
 pub fn trestlecap_mend(
     bytes: &[u8],
     mended: &mut [u8],

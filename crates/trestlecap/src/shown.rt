@@ -13,6 +13,7 @@ fn phase(dark: u8) -> Phase
     if dark == 0 { Phase::Plain } else { Phase::Dark }
 }
 
+#[tactic(auto, using(crate::proofs::Held::none_held, crate::proofs::Held::sixteen, crate::proofs::Held::number_none, crate::proofs::Held::buffer_none))]
 pub fn trestlecap_picture(state: &[u8], digits: u8, rom: &[u8], dark: u8, out: &mut [u8]) -> u8
     ensures { Picturing state.now digits rom.now dark out.old result out.new }
 {

@@ -1,0 +1,25 @@
+-- The sign is put, and then the ten-thousandths nearest to the exact value.
+use Rattle.std.proofs.Common.{◌≡◌, ◌*◌, length, ap, ◌∙◌, arith}
+use Rattle.lent.proofs.Placed.{puts_then}
+use Rattle.decimals.specs.Decimals.{decimals_of, nearest_of, ten_thousandths, printed_volts}
+use Rattle.decimals.proofs.Formulas.{below_ten_volts}
+use Rattle.decimals.proofs.Lengths.{length_volts}
+use Rattle.decimals.proofs.volts.put_volts.Goals as goal
+
+pub put_sign-next-requires : goal.put_sign-next-requires
+put_sign-next-requires c = let l = c.args in omega (arith, length_volts l.divisor l.vdd l.span l.k)
+
+pub put_decimals-requires : goal.put_decimals-requires
+put_decimals-requires c =
+    let l = c.args in
+    let rounded : c.nearest-n.result ≡ ten_thousandths l.divisor l.vdd l.span l.k = c.nearest-n.ensures ∙ ap (λ n. nearest_of (10000 * n) (64 * l.divisor)) c.distance.ensures in (
+      rw rounded (below_ten_volts _ _ _ _ c.requires.0),
+      omega (arith, ap (λ n. length (decimals_of n)) rounded, c.put_sign-next.ensures.next, length_volts l.divisor l.vdd l.span l.k),
+    )
+
+pub returns : goal.returns
+unfolding printed_volts
+returns c =
+    let l = c.args in
+    let rounded : c.nearest-n.result ≡ ten_thousandths l.divisor l.vdd l.span l.k = c.nearest-n.ensures ∙ ap (λ n. nearest_of (10000 * n) (64 * l.divisor)) c.distance.ensures in
+    puts_then _ _ _ _ _ _ _ _ (omega arith) c.put_sign-next.ensures (rw (← rounded) c.put_decimals.ensures)
