@@ -77,9 +77,6 @@ none_either true = refl
 none_either false = refl
 
 module _ (c : Controller) (characters : List ℕ) {request : Request} where
-  pub call_heard : {call : Call} {r : _} {left : List ℕ} → request ≡ Make call → Heard c (Make call) characters r left → Heard c request characters r left
-  call_heard {r = r} {left = left} e h = subst⁻¹ (λ (x : Request). Heard c x characters r left) e h
-
   pub look_heard : {night : ℕ} {said : Said} (left : List ℕ) → request ≡ LookUp night → said_line said ≡ call_line c (LookUp night) []
       → Heard c request characters record { said = said; writes = true; added = 0 } left
   unfolding added_by events_on call_line answer_to

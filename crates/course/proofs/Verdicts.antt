@@ -9,16 +9,14 @@ use mathlib.Core.List.{List}
 use mathlib.Core.Path.{◌≡◌, refl, sym, ap, subst, subst⁻¹, ◌∙◌}
 use native.Mathlib.Omega.{arith}
 use Rattle.controller.specs.declared.Controller.{Controller}
-use Rattle.printing.specs.Answers.{Printed}
-use Rattle.printing.specs.declared.Answer.{Answer}
 use Rattle.record.proofs.Framed.{body_size}
 use Rattle.record.proofs.Sound.{sound}
 use Rattle.record.specs.Record.{most_events, most_bytes, events_of, check_of}
 use Rattle.run.specs.Run.{Running}
 use Rattle.run.specs.declared.Ran.{Ran}
 use Rattle.text.specs.Text.{refused_of}
-use Rattle.course.specs.Promises.{said_line, Writable, written_of, Heard, Decided}
-use Rattle.course.specs.Course.{part_of, added_by, is_full, lengthened, record_for, line_for, most_line, Played}
+use Rattle.course.specs.Promises.{Writable, written_of, Heard, Decided}
+use Rattle.course.specs.Course.{part_of, added_by, is_full, lengthened, record_for, line_for}
 use Rattle.course.specs.declared.request.Request.{Request}
 use Rattle.course.specs.declared.verdict.Said.{Said}
 use Rattle.course.specs.declared.verdict.Said.TheVariants.{TooLong, Refused}
@@ -81,17 +79,3 @@ module _ (request : Request) (characters bytes : List ℕ) where
             writable = subst⁻¹ (λ (b : Bool). Writable b (length bytes) asked.added) there.writes (omega (arith, events_counted bytes zero), omega arith);
             longer = rw (within, checked, few) (ap (λ (b : Bool). written_of b bytes (take asked.added left)) there.writes ∙ ap (written_of true bytes) there.events);
           }
-
--- ---- what is decided, printed
-
-module _ {request : Request} {characters bytes : List ℕ} {verdict : Verdict} {left : List ℕ} (decided : Decided request characters bytes verdict left) where
-  pub added_writable : Writable verdict.writes (length bytes) (length (take verdict.added left))
-  added_writable = subst⁻¹ (λ (n : ℕ). Writable verdict.writes (length bytes) n) (length-take-le verdict.added left decided.fits) decided.writable
-
-  pub both_played : {longer line longer_left line_left : List ℕ} {r s : Answer} → Printed most_bytes (written_of verdict.writes bytes (take verdict.added left)) longer r longer_left
-      → Printed most_line (said_line verdict.said) line s line_left
-      → Played request characters bytes longer line record { longer = r; line = s } longer_left line_left
-  both_played {longer} {line} {longer_left} {line_left} {r} {s} p q = record {
-    longer_printed = subst (λ (text : List ℕ). Printed most_bytes text longer r longer_left) decided.longer p;
-    line_printed = subst (λ (text : List ℕ). Printed most_line text line s line_left) decided.line q;
-  }

@@ -46,7 +46,6 @@ fn look(part: Controller, night: u8) -> Said
 }
 
 // A look-up has no events.
-#[tactic(auto, using(crate::proofs::Heard::call_heard))]
 pub(crate) fn ask(
     part: Controller,
     request: Request,

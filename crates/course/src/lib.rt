@@ -27,7 +27,6 @@ pub struct Written {
 pub const MOST_LINE: usize = line::MOST_BYTES;
 
 // The bytes behind what is written stay. A buffer that has no room for the longest of its kind is refused, whatever is asked.
-#[tactic(auto, using(crate::proofs::Verdicts::added_writable, crate::proofs::Verdicts::both_played))]
 pub fn play(
     request: Request,
     characters: &[u8],

@@ -12,7 +12,7 @@ use text::{put_number, put_refused, put_text};
 // `not yet written` and the line's end.
 pub(crate) const MOST_BYTES: usize = 16;
 
-#[tactic(auto, using(crate::proofs::Heard::said_put), unfolding(crate::specs::Course::figure_line))]
+#[tactic(auto, unfolding(crate::specs::Course::figure_line))]
 fn put_line(said: Said, out: &mut [u8]) -> usize
     requires { most_line ≤ length out.old }
     ensures { Puts (said_line said) 0 out.old result out.new }

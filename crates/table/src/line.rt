@@ -10,7 +10,7 @@ use text::put_number;
 pub(crate) const LINE_BYTES: usize = 22;
 
 // A space behind each number.
-#[tactic(auto, using(lent::proofs::Placed::awaits_all, crate::proofs::Columns::spaced_room, crate::proofs::Columns::spaced_end))]
+#[tactic(auto, using(crate::proofs::Columns::spaced_room, crate::proofs::Columns::spaced_end))]
 fn put_spaced(numbers: &[u16], place: usize, out: &mut [u8]) -> usize
     requires { place + length (spaced numbers.now) ≤ length out.old }
     ensures { Puts (spaced numbers.now) place out.old result out.new }

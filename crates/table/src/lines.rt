@@ -11,7 +11,7 @@ use record::word;
 use run::{run_events, started};
 
 // Of events that have been run, and what each was answered, where its own three bytes stand.
-#[tactic(auto, using(lent::proofs::Placed::awaits_all, crate::proofs::Turns::narrow_on, crate::proofs::Turns::lines_end))]
+#[tactic(auto, using(crate::proofs::Turns::narrow_on, crate::proofs::Turns::lines_end))]
 fn put_answered(events: &[u8], answers: &[u8], place: usize, out: &mut [u8]) -> usize
     requires { Printable events.now answers.now × (place + line_bytes * most_events ≤ length out.old) }
     ensures { Puts (lines_of 1 events.now answers.now) place out.old result out.new }
