@@ -12,8 +12,8 @@ use Rattle.condition.specs.Flag.{flag_number}
 use Rattle.controller.specs.Answers.{Said}
 use Rattle.record.proofs.FrontEvents.{drop_three}
 use Rattle.run.specs.Run.{answer_bytes}
-use Rattle.bedside.specs.Promises.{any_third}
 use Rattle.bedside.specs.Panel.{any_wrap}
+use Rattle.bedside.specs.Promises.{any_third}
 
 -- ---- a flag a turn
 

@@ -20,7 +20,6 @@ use Rattle.event.specs.declared.Kind.{Kind}
 use Rattle.event.specs.declared.Kind.TheVariants.{InstructionWrite, DataWrite, StatusRead, DataRead}
 use Rattle.instructions.proofs.Rows.{change_by_byte}
 use Rattle.instructions.specs.Instructions.{decode, obey}
-use Rattle.instructions.specs.declared.instruction.Instruction.TheVariants.{Nothing, Clear}
 use Rattle.step.specs.Data.{write_data, read_data, read_status, act}
 use Rattle.step.specs.Step.{first_half}
 use Rattle.bus.specs.Refusals.{byte_of}

@@ -19,7 +19,6 @@ use Rattle.halves.specs.declared.Half.{Half}
 use Rattle.halves.specs.declared.LineCount.{LineCount}
 use Rattle.halves.specs.declared.LineCount.TheVariants.{Eight, Four}
 use Rattle.instructions.specs.Instructions.{decode, obey}
-use Rattle.instructions.specs.declared.instruction.Instruction.TheVariants.{Nothing}
 use Rattle.step.specs.Data.{read_of, act}
 use Rattle.step.specs.Step.{first_half, second_half, on_four, on_bus, refused_busy, result_for, stepped}
 use Rattle.bus.specs.Events.{told_by, waits}

@@ -10,7 +10,6 @@ use Rattle.controller.specs.declared.Controller.{Controller}
 use Rattle.event.specs.declared.Event.TheVariants.{Transfer, Wait}
 use Rattle.event.specs.declared.Kind.{Kind}
 use Rattle.halves.specs.declared.Half.{Half}
-use Rattle.instructions.specs.declared.instruction.Instruction.TheVariants.{Nothing}
 use Rattle.step.specs.Data.{write_data, read_data, read_status}
 use Rattle.step.specs.Step.{first_half, result_for}
 use Rattle.bus.specs.Events.{told_by}

@@ -27,7 +27,6 @@ use Rattle.event.specs.declared.Kind.TheVariants.{DataWrite, DataRead}
 use Rattle.halves.specs.Halves.{upper, lower, half_fits, answered}
 use Rattle.halves.specs.declared.Half.{Half}
 use Rattle.halves.specs.declared.LineCount.TheVariants.{Eight, Four}
-use Rattle.instructions.specs.declared.instruction.Instruction.TheVariants.{Nothing, Clear}
 use Rattle.step.specs.Data.{write_data, read_data, read_of, act}
 use Rattle.step.specs.Step.{first_half, second_half, on_four}
 use Rattle.bus.specs.Events.{told_by, after_events, waits}

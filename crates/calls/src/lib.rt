@@ -2,8 +2,8 @@
 #![tactic(auto)]
 
 ghost use Rattle.std.specs.Prelude.{◌+◌, ◌≤◌, length};
-ghost use Rattle.calls.specs.Promises.{PutsEvents, room_for, bytes_in, InCourse};
 ghost use Rattle.calls.specs.Events.{call_events};
+ghost use Rattle.calls.specs.Promises.{PutsEvents, room_for, bytes_in, InCourse};
 
 mod bytes_given;
 mod log_call;

@@ -1,7 +1,7 @@
 // The events of a text.
 ghost use Rattle.std.specs.Prelude.{◌+◌, ◌≤◌, length, ◌≡◌};
-ghost use Rattle.calls.specs.Promises.{PutsEvents, room_for};
 ghost use Rattle.calls.specs.Events.{line_address, text_events};
+ghost use Rattle.calls.specs.Promises.{PutsEvents, room_for};
 
 use super::bytes_given::{put_address, put_data};
 use counters::address::DisplayAddress;

@@ -11,8 +11,8 @@ use native.Mathlib.Omega.{arith}
 use Rattle.bedside.specs.Log.{figure_of, look_up_answer, look_up_figure, LookingUp}
 use Rattle.bedside.specs.Refusals.{call_answer}
 use Rattle.bedside.specs.declared.look.Night.{Night}
-use Rattle.calls.specs.Promises.{PutsEvents}
 use Rattle.calls.specs.Events.{call_events}
+use Rattle.calls.specs.Promises.{PutsEvents}
 use Rattle.calls.specs.declared.Call.{Call}
 use Rattle.controller.specs.declared.Controller.{Controller}
 use Rattle.lent.proofs.Front.{front_written}
@@ -20,8 +20,8 @@ use Rattle.lent.proofs.Left.{at_front}
 use Rattle.lent.specs.Put.{Puts}
 use Rattle.record.specs.Record.{body_of}
 use Rattle.text.specs.Text.{refused_of}
-use Rattle.course.specs.Promises.{said_line, Heard}
 use Rattle.course.specs.Course.{answer_to, events_on, added_by, figure_line, done_line, call_line}
+use Rattle.course.specs.Promises.{said_line, Heard}
 use Rattle.course.specs.declared.request.Request.{Request}
 use Rattle.course.specs.declared.request.Request.TheVariants.{Make, LookUp}
 use Rattle.course.specs.declared.verdict.Said.{Said}

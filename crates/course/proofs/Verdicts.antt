@@ -15,8 +15,8 @@ use Rattle.record.specs.Record.{most_events, most_bytes, events_of, check_of}
 use Rattle.run.specs.Run.{Running}
 use Rattle.run.specs.declared.Ran.{Ran}
 use Rattle.text.specs.Text.{refused_of}
-use Rattle.course.specs.Promises.{Writable, written_of, Heard, Decided}
 use Rattle.course.specs.Course.{part_of, added_by, is_full, lengthened, record_for, line_for}
+use Rattle.course.specs.Promises.{Writable, written_of, Heard, Decided}
 use Rattle.course.specs.declared.request.Request.{Request}
 use Rattle.course.specs.declared.verdict.Said.{Said}
 use Rattle.course.specs.declared.verdict.Said.TheVariants.{TooLong, Refused}

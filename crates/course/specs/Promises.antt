@@ -1,6 +1,6 @@
 -- Helpers of contracts, not rules: what a verdict means, as a line and as a record, and what it is asked for.
-use Rattle.std.specs.Prelude.{ℕ, ◌+◌, ◌≤◌, length, take, drop, Bool, true, false, List, [], ◌++◌, ◌≡◌}
 use Rattle.std.proofs.Math.Option.{none, some}
+use Rattle.std.specs.Prelude.{ℕ, ◌+◌, ◌≤◌, length, take, drop, Bool, true, false, List, [], ◌++◌, ◌≡◌}
 use Rattle.calls.specs.Promises.{room_for}
 use Rattle.controller.specs.declared.Controller.{Controller}
 use Rattle.record.specs.Record.{most_bytes, framed, body_of}

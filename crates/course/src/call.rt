@@ -1,7 +1,7 @@
 // A request made to a part: the line that is said, and the call's own events.
 ghost use Rattle.std.specs.Prelude.{◌≤◌, length, [], ◌≡◌};
-ghost use Rattle.course.specs.Promises.{call_room, said_line, Heard};
 ghost use Rattle.course.specs.Course.{call_line};
+ghost use Rattle.course.specs.Promises.{call_room, said_line, Heard};
 ghost use Rattle.course.specs.declared.request.Request.{Request};
 
 use super::request::Request;

@@ -2,8 +2,8 @@
 ghost use Rattle.std.specs.Prelude.{◌≤◌, length};
 ghost use Rattle.lent.specs.Put.{Puts};
 ghost use Rattle.printing.specs.Answers.{Printed};
-ghost use Rattle.course.specs.Promises.{said_line};
 ghost use Rattle.course.specs.Course.{most_line};
+ghost use Rattle.course.specs.Promises.{said_line};
 
 use super::verdict::Said;
 use printing::Answer;

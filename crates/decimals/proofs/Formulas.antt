@@ -4,8 +4,8 @@ use lib.Dec.{ltb}
 use native.Mathlib.Nat.{div-lt_iff_lt-mul, mul-le-mul}
 use native.Mathlib.Omega.{arith}
 use Rattle.condition.proofs.Tests.{split}
-use Rattle.decimals.specs.Promises.{Formula}
 use Rattle.decimals.specs.Decimals.{distance_of, ten_thousandths}
+use Rattle.decimals.specs.Promises.{Formula}
 
 distance_most : (a b most : ℕ) → a ≤ most → b ≤ most → distance_of a b ≤ most
 distance_most a b most h g = split (λ n. n ≤ most) (ltb a b) (λ t. omega arith) (λ t. omega arith)

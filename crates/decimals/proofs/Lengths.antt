@@ -6,8 +6,8 @@ use mathlib.Core.Path.{◌≡◌}
 use native.Mathlib.Omega.{arith}
 use Rattle.text.proofs.Decimal.{one_digit}
 use Rattle.text.specs.Text.{text_of, decimal_of}
-use Rattle.decimals.specs.Promises.{Formula}
 use Rattle.decimals.specs.Decimals.{digits_in, sign_of, ten_thousandths, decimals_of, printed_volts, most_volts}
+use Rattle.decimals.specs.Promises.{Formula}
 use Rattle.decimals.proofs.Formulas.{below_ten_volts}
 use Rattle.decimals.proofs.LastDigits.{length_digits}
 use Rattle.decimals.proofs.Signs.{sign_fits}

@@ -1,8 +1,8 @@
 // Volts with four decimals, from whole numbers: the exact value of a formula, to the nearest.
 ghost use Rattle.std.specs.Prelude.{◌+◌, ◌*◌, ◌≤◌, ◌<◌, length, ◌≡◌};
 ghost use Rattle.lent.specs.Put.{Puts};
-ghost use Rattle.decimals.specs.Promises.{Formula};
 ghost use Rattle.decimals.specs.Decimals.{decimals_of, distance_of, nearest_of, sign_of, printed_volts};
+ghost use Rattle.decimals.specs.Promises.{Formula};
 
 use super::digits::put_digits;
 use text::{put_number, put_text};

@@ -10,9 +10,9 @@ use native.Mathlib.Omega.{arith}
 use Rattle.controller.specs.declared.Controller.{Controller}
 use Rattle.lent.proofs.Lists.{parts_same, values_same}
 use Rattle.size.specs.Size.{rows_of}
-use Rattle.dots.specs.Promises.{Column}
 use Rattle.dots.specs.Digit.{shown_on}
 use Rattle.dots.specs.Dots.{is_dark, pattern_of, is_marked, is_set, five_of, cell_dots, dots_at, line_of}
+use Rattle.dots.specs.Promises.{Column}
 use Rattle.dots.specs.declared.mark.Mark.{Mark}
 use Rattle.dots.specs.declared.phase.Phase.{Phase}
 use Rattle.dots.proofs.Columns.{columns_rows}

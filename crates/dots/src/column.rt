@@ -1,7 +1,7 @@
 // One digit's column of a line: its pattern, row by row.
 ghost use Rattle.std.specs.Prelude.{◌*◌, ◌%◌, ◌≤◌, ◌<◌, length, ◌≡◌};
-ghost use Rattle.dots.specs.Promises.{Column};
 ghost use Rattle.dots.specs.Dots.{image_size, pattern_of};
+ghost use Rattle.dots.specs.Promises.{Column};
 
 // Codes 10 to FF hex take the ROM's byte, codes 00 to 0F character memory's.
 #[tactic(auto, unfolding(crate::specs::Dots::pattern_of, crate::specs::Dots::character_at))]

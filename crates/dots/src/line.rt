@@ -1,9 +1,9 @@
 // One line: its digits' columns, then the mark.
 ghost use Rattle.std.specs.Prelude.{ℕ, ◌+◌, ◌*◌, ◌%◌, ◌≤◌, ◌<◌, length, get_or, true, ◌≡◌};
 ghost use Rattle.size.specs.Size.{lines_of, most_digits, rows_of};
-ghost use Rattle.dots.specs.Promises.{Drawable};
 ghost use Rattle.dots.specs.Digit.{shown_on};
 ghost use Rattle.dots.specs.Dots.{image_size, pattern_of, line_of};
+ghost use Rattle.dots.specs.Promises.{Drawable};
 
 use super::column::draw_column;
 use super::digit::shown;

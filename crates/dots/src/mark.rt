@@ -2,9 +2,9 @@
 ghost use Rattle.std.specs.Prelude.{ℕ, ◌+◌, ◌*◌, ◌≤◌, ◌<◌, eqb, length, get_or, cond, ◌&&◌, ◌≡◌};
 ghost use Rattle.counters.specs.Address.{address_of};
 ghost use Rattle.size.specs.Size.{lines_of, most_digits};
-ghost use Rattle.dots.specs.Promises.{Column};
 ghost use Rattle.dots.specs.Digit.{shown_on};
 ghost use Rattle.dots.specs.Dots.{is_dark, is_marked, is_set};
+ghost use Rattle.dots.specs.Promises.{Column};
 
 use super::phase::Phase;
 use controller::registers::Registers;

@@ -11,8 +11,8 @@ use Rattle.counters.specs.declared.LineMode.TheVariants.{One, Two}
 use Rattle.lent.proofs.Lists.{length_parts, length_values}
 use Rattle.size.specs.Size.{rows_of}
 use Rattle.text.specs.Text.{decimal_of}
-use Rattle.drawing.specs.Promises.{row_size, gap_size, lines_size, size_of}
 use Rattle.drawing.specs.Drawing.{head_of, row_in, gap_in, between, line_in, drawing_of}
+use Rattle.drawing.specs.Promises.{row_size, gap_size, lines_size, size_of}
 use Rattle.drawing.specs.Row.{text_row, image_row}
 use Rattle.drawing.specs.declared.form.Form.{Form}
 use Rattle.drawing.specs.declared.form.Form.TheVariants.{Text, Image}

@@ -12,8 +12,8 @@ use Rattle.size.proofs.Sizes.{digits_counted}
 use Rattle.size.specs.Size.{lines_of, most_digits, rows_in}
 use Rattle.text.proofs.Decimal.{digits_below}
 use Rattle.drawing.specs.Answers.{refusals, answer_for}
-use Rattle.drawing.specs.Promises.{row_size, gap_size, lines_size, size_of}
 use Rattle.drawing.specs.Drawing.{height_of, head_of, most_drawn}
+use Rattle.drawing.specs.Promises.{row_size, gap_size, lines_size, size_of}
 use Rattle.drawing.specs.Row.{width_of}
 use Rattle.drawing.specs.Theorems.{DrawingGivenExactly, AtMost}
 use Rattle.drawing.specs.declared.form.Form.{Form}

@@ -1,8 +1,8 @@
 // How many bytes a drawing and its parts have.
 ghost use Rattle.std.specs.Prelude.{◌*◌, ◌≤◌, ◌<◌, length, ◌≡◌};
 ghost use Rattle.size.specs.Size.{rows_of};
-ghost use Rattle.drawing.specs.Promises.{row_size, gap_size, lines_size, size_of};
 ghost use Rattle.drawing.specs.Drawing.{height_of, head_of, most_drawn};
+ghost use Rattle.drawing.specs.Promises.{row_size, gap_size, lines_size, size_of};
 
 use super::form::Form;
 use super::row::width;

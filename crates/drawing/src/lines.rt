@@ -2,8 +2,8 @@
 ghost use Rattle.std.specs.Prelude.{◌+◌, ◌*◌, ◌≤◌, length, ◌≡◌};
 ghost use Rattle.counters.specs.declared.LineMode.TheVariants.{Two};
 ghost use Rattle.size.specs.Size.{rows_of, bytes_of};
-ghost use Rattle.drawing.specs.Promises.{row_size, gap_size, lines_size, size_of};
 ghost use Rattle.drawing.specs.Drawing.{gap_in, between, line_in, drawing_of};
+ghost use Rattle.drawing.specs.Promises.{row_size, gap_size, lines_size, size_of};
 
 use super::extent::{gap_size, height, row_size};
 use super::form::Form;

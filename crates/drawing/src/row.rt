@@ -1,7 +1,7 @@
 // One row of dots, as text or as bits.
 ghost use Rattle.std.specs.Prelude.{◌+◌, ◌≤◌, ◌<◌, ◌/◌, length, get_or, ◌≡◌};
-ghost use Rattle.drawing.specs.Promises.{row_size, gap_size};
 ghost use Rattle.drawing.specs.Drawing.{row_in, gap_in};
+ghost use Rattle.drawing.specs.Promises.{row_size, gap_size};
 ghost use Rattle.drawing.specs.Row.{width_of, is_on, mark_of, text_row, bit_at, packed, image_row};
 
 use super::form::Form;

@@ -15,8 +15,8 @@ use Rattle.counters.specs.Shift.{last_shift, has_shift}
 use Rattle.counters.specs.declared.LineMode.{LineMode}
 use Rattle.counters.specs.declared.LineMode.TheVariants.{One, Two}
 use Rattle.counters.specs.declared.shift.Shift.{Shift}
-use Rattle.dots.specs.Promises.{Drawable}
 use Rattle.dots.specs.Dots.{image_size}
+use Rattle.dots.specs.Promises.{Drawable}
 use Rattle.dots.specs.declared.phase.Phase.{Phase}
 use Rattle.lent.proofs.Left.{refused_keeps, done_writes_all}
 use Rattle.size.proofs.Sizes.{digits_counted}

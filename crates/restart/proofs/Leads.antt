@@ -19,7 +19,6 @@ use Rattle.controller.specs.declared.registers.Registers.{Registers}
 use Rattle.counters.specs.Address.{display}
 use Rattle.counters.specs.Shift.{shift}
 use Rattle.event.specs.declared.Kind.TheVariants.{InstructionWrite}
-use Rattle.instructions.specs.declared.instruction.Instruction.TheVariants.{Nothing}
 use Rattle.step.specs.Step.{result_for}
 use Rattle.restart.specs.Compared.{Holds, answers}
 use Rattle.restart.specs.Writes.{Write, told_of, Given, after, AtEach}

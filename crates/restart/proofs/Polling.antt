@@ -20,7 +20,6 @@ use Rattle.controller.specs.declared.registers.Registers.{Registers}
 use Rattle.event.specs.declared.Event.TheVariants.{Transfer, Wait}
 use Rattle.event.specs.declared.Kind.TheVariants.{StatusRead}
 use Rattle.halves.specs.declared.Half.{Half}
-use Rattle.instructions.specs.declared.instruction.Instruction.TheVariants.{Nothing}
 use Rattle.step.specs.Data.{read_status, act}
 use Rattle.step.specs.Step.{first_half, second_half, on_four, refused_busy}
 use Rattle.restart.specs.Polling.{Poll, Ticks, pause_events, pause_ticks, Calm, PollsAreWaits, CalmBetweenBytes}

@@ -23,7 +23,7 @@ use Rattle.instructions.proofs.Decoded.{decoded_by_range}
 use Rattle.instructions.proofs.Rows.{leaves_no_half, answers_done_or_three, only_clear_changes, function_set_is_done, function_set_sets_lines, function_set_keeps_memories}
 use Rattle.instructions.specs.Instructions.{bit, line_count, line_mode, decode, rearranged, obey}
 use Rattle.instructions.specs.declared.instruction.Instruction.{Instruction}
-use Rattle.instructions.specs.declared.instruction.Instruction.TheVariants.{Nothing, FunctionSet}
+use Rattle.instructions.specs.declared.instruction.Instruction.TheVariants.{FunctionSet}
 use Rattle.step.specs.Step.{first_half, result_for}
 use Rattle.restart.specs.Compared.{answers}
 use Rattle.restart.specs.Polling.{Calm}

@@ -7,8 +7,8 @@ use mathlib.Core.Path.{◌≡◌}
 use native.Mathlib.Omega.{arith}
 use Rattle.decimals.proofs.LastDigits.{length_digits}
 use Rattle.decimals.proofs.Lengths.{volts_fit}
-use Rattle.decimals.specs.Promises.{Formula}
 use Rattle.decimals.specs.Decimals.{digits_in, printed_volts}
+use Rattle.decimals.specs.Promises.{Formula}
 use Rattle.text.specs.Text.{text_of}
 use Rattle.sheet.specs.Sheet.{bits_of, voltage_line, most_behind}
 

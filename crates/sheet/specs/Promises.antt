@@ -1,6 +1,6 @@
 -- Helpers of contracts, not rules of the paper: what the lines ask.
-use Rattle.std.specs.Prelude.{ℕ, ◌+◌, ◌*◌, ◌≤◌, T, not}
 use Rattle.std.specs.Float.Ieee.{is_nan}
+use Rattle.std.specs.Prelude.{ℕ, ◌+◌, ◌*◌, ◌≤◌, T, not}
 use Rattle.decimals.specs.Promises.{Formula}
 use Rattle.voltages.specs.declared.Steps.{Steps}
 use Rattle.voltages.specs.declared.Steps.TheVariants.{Quarter, Fifth}

@@ -1,7 +1,7 @@
 -- What `bias` prints: a line for each voltage, or a refusal.
-use Rattle.std.specs.Prelude.{ℕ, ◌+◌, ◌*◌, Float, List, ◌++◌}
 use Rattle.std.specs.Float.{binary32}
 use Rattle.std.specs.Float.Ieee.{to_bits}
+use Rattle.std.specs.Prelude.{ℕ, ◌+◌, ◌*◌, Float, List, ◌++◌}
 use Rattle.decimals.specs.Decimals.{digits_in, printed_volts, most_volts}
 use Rattle.text.specs.Text.{text_of, refused_of}
 use Rattle.voltages.specs.Answers.{number_of, answer_of}

@@ -1,6 +1,6 @@
 // The line of one voltage.
-ghost use Rattle.std.specs.Prelude.{◌+◌, ◌≤◌, T, length, not};
 ghost use Rattle.std.specs.Float.Ieee.{is_nan};
+ghost use Rattle.std.specs.Prelude.{◌+◌, ◌≤◌, T, length, not};
 ghost use Rattle.decimals.specs.Promises.{Formula};
 ghost use Rattle.lent.specs.Put.{Puts};
 ghost use Rattle.sheet.specs.Sheet.{bits_of, voltage_line, most_behind};

@@ -14,8 +14,8 @@ use Rattle.state.specs.Taken.{registers_read, same_bytes, put_again, is_state, t
 use Rattle.state.specs.Theorems.{TakenExactly, PutTaken, PutAlone, PutGivenExactly, TakeGivenExactly}
 use Rattle.state.specs.declared.Taken.{Taken}
 use Rattle.state.proofs.Back.{put_behind, registers_again, back}
-use Rattle.state.proofs.Lengths.{put_length, taken_held}
 use Rattle.state.proofs.Compared.{bytes_same}
+use Rattle.state.proofs.Lengths.{put_length, taken_held}
 
 pub put_taken : PutTaken
 unfolding taken_of is_state put_again

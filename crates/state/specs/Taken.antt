@@ -1,6 +1,6 @@
 -- What `put` and `take` promise: only what is put is taken; any other run of bytes is 16.
-use Rattle.std.specs.Prelude.{ℕ, ◌+◌, ◌*◌, ◌-◌, ltb, eqb, length, take, drop, get_or, Bool, true, false, cond, ◌&&◌, List, [], ◌∷◌, ◌≡◌}
 use Rattle.std.proofs.Math.Option.{Option, none, some}
+use Rattle.std.specs.Prelude.{ℕ, ◌+◌, ◌*◌, ◌-◌, ltb, eqb, length, take, drop, get_or, Bool, true, false, cond, ◌&&◌, List, [], ◌∷◌, ◌≡◌}
 use Rattle.condition.specs.First.{Rule, ◌when◌, first_of}
 use Rattle.controller.specs.Part.{in_range, switched_on, with}
 use Rattle.controller.specs.declared.Controller.{Controller}

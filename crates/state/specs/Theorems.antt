@@ -1,6 +1,6 @@
 -- What is proved of put and take beside the promises.
-use Rattle.std.specs.Prelude.{ℕ, T, length, List, ◌≡◌}
 use Rattle.std.proofs.Math.Option.{some}
+use Rattle.std.specs.Prelude.{ℕ, T, length, List, ◌≡◌}
 use Rattle.condition.specs.First.{Exactly}
 use Rattle.controller.specs.Part.{in_range, switched_on}
 use Rattle.controller.specs.declared.Controller.{Controller}

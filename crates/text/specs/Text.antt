@@ -1,7 +1,7 @@
 -- Text as its bytes, and numbers in decimal.
 use Prim.Native.Char.{code}
-use Rattle.std.specs.Prelude.{ℕ, zero, suc, ◌+◌, ◌*◌, ◌-◌, ◌/◌, ◌%◌, ltb, cond, List, [], ◌∷◌, ◌++◌}
 use Prim.Native.String.{String, [] as none, ◌∷◌ as ◌then◌}
+use Rattle.std.specs.Prelude.{ℕ, zero, suc, ◌+◌, ◌*◌, ◌-◌, ◌/◌, ◌%◌, ltb, cond, List, [], ◌∷◌, ◌++◌}
 
 -- the codes of the characters of a text
 abbrev pub text_of : String → List ℕ

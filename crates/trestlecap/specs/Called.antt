@@ -1,6 +1,6 @@
 -- 7/12: "called from the masker's C firmware on numbers and byte slices": what each exported call promises.
-use Rattle.std.specs.Prelude.{ℕ, eqb, Float, length, replicate, cond, List, [], ◌∷◌, ◌≡◌}
 use Rattle.std.proofs.Math.Option.{Option, none, some}
+use Rattle.std.specs.Prelude.{ℕ, eqb, Float, length, replicate, cond, List, [], ◌∷◌, ◌≡◌}
 use Rattle.bedside.specs.Log.{look_up_answer, figure_of}
 use Rattle.bedside.specs.Panel.{call_leaves, call_wraps}
 use Rattle.bedside.specs.Refusals.{call_answer}

@@ -26,9 +26,9 @@ use Rattle.usage_log.specs.Words.{LooksSame, LooksWritten, cells_after, end_of}
 use Rattle.usage_log.proofs.Along.{Along, cut_along}
 use Rattle.usage_log.proofs.Called.{call_ends, end_in_range, log_keeps_cell}
 use Rattle.usage_log.proofs.Ends.{log_along}
-use Rattle.usage_log.proofs.Given.{Ready, ready_facts}
 use Rattle.usage_log.proofs.Kept.{no_characters, night_apart}
 use Rattle.usage_log.proofs.Looked.{figure_cell_lem, mark_cell_lem, looks_same, looks_unwritten, looks_written}
+use Rattle.usage_log.proofs.Given.{Ready, ready_facts}
 
 module _ (c : Controller) (night quarters : ℕ) (whole : Whole c) (in_range_lem : in_range c.registers ≡ true) (taken : NightTaken c night quarters) where
   abbrev between : List ℕ

@@ -1,6 +1,6 @@
 -- The words of the theorems about the usage log: what a look-up finds, which cells a call writes, where a call ends.
-use Rattle.std.specs.Prelude.{ℕ, ◌+◌, T, ltb, leb, eqb, set, Bool, ◌&&◌, ◌||◌, List, [], ◌∷◌, ◌≡◌}
 use Rattle.std.proofs.Math.Option.{some}
+use Rattle.std.specs.Prelude.{ℕ, ◌+◌, T, ltb, leb, eqb, set, Bool, ◌&&◌, ◌||◌, List, [], ◌∷◌, ◌≡◌}
 use Rattle.bedside.specs.Log.{figure_cell, mark_cell, look_up_answer, look_up_figure}
 use Rattle.bedside.specs.Panel.{call_leaves}
 use Rattle.bedside.specs.Refusals.{text_length}

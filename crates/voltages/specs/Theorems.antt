@@ -1,7 +1,7 @@
 -- What is proved of the voltages.
-use Rattle.std.specs.Prelude.{ℕ, suc, ◌+◌, ◌-◌, ◌*◌, ◌^◌, ◌<◌, ◌≤◌, T, ltb, Float, cond, not, ◌≡◌}
 use Rattle.std.specs.Float.Ieee.{is_nan, lt}
 use Rattle.std.specs.Float.Ieee.Exact.{HasValue}
+use Rattle.std.specs.Prelude.{ℕ, suc, ◌+◌, ◌-◌, ◌*◌, ◌^◌, ◌<◌, ◌≤◌, T, ltb, Float, cond, not, ◌≡◌}
 use Rattle.condition.specs.First.{Exactly}
 use Rattle.voltages.specs.Answers.{number_of, answer_of, refusals, has_vdd, has_span}
 use Rattle.voltages.specs.Voltages.{whole_of, step_of, divisor_of}

@@ -1,7 +1,7 @@
 -- 02, "Bias sheet for the repair bench": the drive voltages by the formulas of the sheet.
-use Rattle.std.specs.Prelude.{ℕ, Float, pos}
 use Rattle.std.specs.Float.{binary32}
 use Rattle.std.specs.Float.Ieee.{of_int, sub, mul, div}
+use Rattle.std.specs.Prelude.{ℕ, Float, pos}
 use Rattle.voltages.specs.declared.Bias.{Bias}
 use Rattle.voltages.specs.declared.Bias.TheVariants.{Quarter, Fifth}
 use Rattle.voltages.specs.declared.Steps.{Steps}

@@ -1,7 +1,7 @@
 -- Each return's tests decide the list of refusals; the last draws over the front of the buffer.
-use borrow.Author.Tests.{lt-ltb, le-ltb}
 use Rattle.std.proofs.Common.{refl, sym, ◌∙◌}
 use Rattle.std.proofs.Math.Seq.{length-take-le}
+use borrow.Author.Tests.{lt-ltb, le-ltb}
 use Rattle.condition.specs.First.{first_of}
 use Rattle.size.proofs.Sizes.{digits_counted}
 use Rattle.drawing.specs.Answers.{refusals, answer_for}

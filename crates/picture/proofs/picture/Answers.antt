@@ -1,7 +1,7 @@
 -- Each return's tests decide the list of refusals; the last draws over the front of the buffer.
-use borrow.Author.Tests.{lt-ltb, le-ltb, eq-eqb, ne_eqb}
 use Rattle.std.proofs.Common.{refl, sym, ◌∙◌}
 use Rattle.std.proofs.Math.Seq.{length-take-le}
+use borrow.Author.Tests.{lt-ltb, le-ltb, eq-eqb, ne_eqb}
 use Rattle.condition.specs.First.{first_of}
 use Rattle.picture.specs.Answers.{refusals, answer_for}
 use Rattle.picture.proofs.Promise.{drawable, refused, drawn}

@@ -4,7 +4,7 @@ use Rattle.bus.specs.Transfer.{told}
 use Rattle.controller.specs.declared.Controller.{Controller}
 use Rattle.controller.specs.declared.answer.Answer.{Answer}
 use Rattle.restart.specs.Writes.{halves, patiently, told_of, restart_of}
-use Rattle.restart.proofs.Firsts.{after_first, all_twelve, upper_small}
+use Rattle.restart.proofs.Firsts.{after_first, all_twelve}
 use Rattle.restart.proofs.restart.Goals as goal
 
 pub loop-i-init : goal.loop-i-init

@@ -1,6 +1,6 @@
 -- A turn writes the next byte of the column, from the one that still waits there.
-use Rattle.dots.proofs.Columns.{column_next}
 use Rattle.std.proofs.Math.Nat.{le_refl}
+use Rattle.dots.proofs.Columns.{column_next}
 use Rattle.dots.proofs.mark.draw_mark.Goals as goal
 
 pub loop-row-preserved : goal.loop-row-preserved

@@ -3,8 +3,8 @@ use Rattle.std.proofs.Common.{arith}
 use lib.Ieee.{binary32, to_bits}
 use Rattle.decimals.proofs.LastDigits.{length_digits}
 use Rattle.lent.proofs.Placed.{puts_then}
-use Rattle.sheet.proofs.Lengths.{length_bits}
 use Rattle.sheet.specs.Sheet.{bits_of}
+use Rattle.sheet.proofs.Lengths.{length_bits}
 use Rattle.sheet.proofs.line.put_bits.Goals as goal
 
 pub put_text-next-requires : goal.put_text-next-requires

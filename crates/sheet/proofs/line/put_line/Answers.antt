@@ -2,8 +2,8 @@
 use Rattle.std.proofs.Common.{arith}
 use Rattle.decimals.proofs.Lengths.{volts_fit}
 use Rattle.lent.proofs.Placed.{puts_then}
-use Rattle.sheet.proofs.Lengths.{length_bits, line_fits}
 use Rattle.sheet.specs.Sheet.{voltage_line}
+use Rattle.sheet.proofs.Lengths.{length_bits, line_fits}
 use Rattle.sheet.proofs.line.put_line.Goals as goal
 
 pub put_volts-next-requires : goal.put_volts-next-requires

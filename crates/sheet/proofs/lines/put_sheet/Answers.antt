@@ -1,6 +1,6 @@
 -- An answer without steps prints its refusal, and one with steps their lines.
-use Rattle.sheet.proofs.Printed.{refused_printed, lines_asked}
 use Rattle.sheet.specs.Sheet.{printed_for, sheet_of}
+use Rattle.sheet.proofs.Printed.{refused_printed, lines_asked}
 use Rattle.sheet.proofs.lines.put_sheet.Goals as goal
 
 pub returns-in_default : goal.returns-in_default

@@ -1,5 +1,5 @@
 -- The picture's number decides; where it is 0 its dots are there, and their drawing has room.
-use Rattle.std.proofs.Common.{◌≡◌, ◌∙◌, ◌≤◌, ℕ, List, length, take, replicate, ap, sym, arith, length-take}
+use Rattle.std.proofs.Common.{◌≡◌, ◌∙◌, ℕ, List, length, take, replicate, ap, sym, arith, length-take}
 use lib.ListN.{length-replicate}
 use Rattle.drawing.specs.declared.form.Form.TheVariants.{Text}
 use Rattle.picture.proofs.Lines.{length_picture}
