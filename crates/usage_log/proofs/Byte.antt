@@ -84,14 +84,14 @@ first_half_waits c k n w t e =
     let held : Half.Waiting k (upper n) ≡ Half.Waiting k (held_by k n) = rw w refl in
     (_, transfer_steps (half_busy c Half.Nothing 0) k n t ∙ sym (first_steps (half_busy c Half.Nothing 0) k n free (ap is_four e) held refl))
 
-module _ (c : Controller) (t : T (in_range c.registers)) (no_half_lem : c.registers.half ≡ Half.Nothing) (k : Kind) (w : is_read k ≡ false) (n : ℕ) (small : n < 256)
+module _ (c : Controller) (t : T (in_range c.registers)) (nothing_waits : c.registers.half ≡ Half.Nothing) (k : Kind) (w : is_read k ≡ false) (n : ℕ) (small : n < 256)
     (u : T (not_refused (acted (half_busy c Half.Nothing 0) k n).said)) where
   -- what the byte comes to
   abbrev pub Done : List Event → Type 1
   Done events = Leads events c (acted (half_busy c Half.Nothing 0) k n).controller (acted (half_busy c Half.Nothing 0) k n).said.wrap
 
   idle : (m : ℕ) → transfer_of (half_busy c c.registers.half 0) k m ≡ transfer_of (half_busy c Half.Nothing 0) k m
-  idle m = ap (λ (h : Half). transfer_of (half_busy c h 0) k m) no_half_lem
+  idle m = ap (λ (h : Half). transfer_of (half_busy c h 0) k m) nothing_waits
 
   none_in_range : T (in_range (half_busy c Half.Nothing 0).registers)
   unfolding half_fits

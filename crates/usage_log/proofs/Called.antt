@@ -59,7 +59,7 @@ module _ (c : Controller) (call : Call) (characters : List ℕ) (e : call_answer
       → Comes (call_events c.registers.bus call characters) c (standing c (Display (display 0x00)) (cells_after call characters c.display) 10) (last_of_lines call)
   taken_comes small =
       let taken = call_taken c call (length characters) e in
-      call_comes c call characters small taken_ready (facts c.registers (holds _ taken.in_range_lem)) taken.own
+      call_comes c call characters small taken_ready (facts c.registers (holds _ taken.within)) taken.own
 
 pub call_ends : CallEnds
 unfolding call_leaves end_of
@@ -70,7 +70,7 @@ call_ends c call characters small e =
       end =
           ap (λ (b : Bool). cond b (after_events (call_events c.registers.bus call characters) c) c) (eq-eqb _ _ e)
           ∙ comes.leaves
-          ∙ ap (λ (h : Half). with (cells_after call characters c.display) c.character (awaiting (placed c.registers (Display (display 0x00)) c.registers.shift) h 10)) (sym (taken_ready c call characters e).no_half_lem);
+          ∙ ap (λ (h : Half). with (cells_after call characters c.display) c.character (awaiting (placed c.registers (Display (display 0x00)) c.registers.shift) h 10)) (sym (taken_ready c call characters e).nothing_waits);
     }
 
 -- a fact of the controller as it was, and of where the call ends, is one of what the call leaves

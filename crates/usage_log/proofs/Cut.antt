@@ -30,7 +30,7 @@ use Rattle.usage_log.proofs.Kept.{no_characters, night_apart}
 use Rattle.usage_log.proofs.Looked.{figure_cell_lem, mark_cell_lem, looks_same, looks_unwritten, looks_written}
 use Rattle.usage_log.proofs.Given.{Ready, ready_facts}
 
-module _ (c : Controller) (night quarters : ℕ) (whole : Whole c) (in_range_lem : in_range c.registers ≡ true) (taken : NightTaken c night quarters) where
+module _ (c : Controller) (night quarters : ℕ) (whole : Whole c) (within : in_range c.registers ≡ true) (taken : NightTaken c night quarters) where
   abbrev between : List ℕ
   between = set c.display (figure_cell night).0 quarters
 
@@ -56,7 +56,7 @@ module _ (c : Controller) (night quarters : ℕ) (whole : Whole c) (in_range_lem
       → (LooksSame c t night ⊎ LooksWritten t night quarters) × ((other : ℕ) → other ≢ night → LooksSame c t other)
 
   ranged_alike : (t : Controller) → in_range t.registers ≡ true → in_range t.registers ≡ in_range c.registers
-  ranged_alike t e = e ∙ sym in_range_lem
+  ranged_alike t e = e ∙ sym within
 
   cut_before : Cut c.display
   unfolding Cut
@@ -99,7 +99,7 @@ logged_is_read c night quarters whole e =
     let ready = call_taken c (Log night quarters) 0 e in
     let taken : NightTaken c night quarters = night_taken c night quarters ready.own in
     let t : Controller = end_of c (Log night quarters) [] in
-    let reads : LooksWritten t night quarters = reads_logged c night quarters whole ready.in_range_lem taken t refl (is_true _ (end_in_range c (Log night quarters) [] (holds _ ready.in_range_lem))) in
+    let reads : LooksWritten t night quarters = reads_logged c night quarters whole ready.within taken t refl (is_true _ (end_in_range c (Log night quarters) [] (holds _ ready.within))) in
     subst⁻¹ (λ (x : Controller). LooksWritten x night quarters) (call_ends c (Log night quarters) [] no_characters e).end reads
 
 pub cut_leaves_old_or_new : CutLeavesOldOrNew
@@ -108,11 +108,11 @@ cut_leaves_old_or_new cut c night quarters whole e =
     let called = call_taken c (Log night quarters) 0 e in
     let taken : NightTaken c night quarters = night_taken c night quarters called.own in
     let ready : Ready c.registers = ready_facts c.registers called.ready in
-    let in_range_lem : T (in_range c.registers) = holds _ called.in_range_lem in
+    let within : T (in_range c.registers) = holds _ called.within in
     let few : quarters ≤ most_quarters = taken.in_day in
-    let P : List ℕ → Type 0 = Cut c night quarters whole called.in_range_lem taken in
+    let P : List ℕ → Type 0 = Cut c night quarters whole called.within taken in
     let along : Along P (log_events c.registers.bus night quarters) c =
-    log_along c ready (facts c.registers in_range_lem) night quarters taken.in_course (omega arith) P
-    (cut_before c night quarters whole called.in_range_lem taken) (cut_between c night quarters whole called.in_range_lem taken) (cut_behind c night quarters whole called.in_range_lem taken) in
-    let found = cut_along P (log_events c.registers.bus night quarters) c along cut _ refl (is_true _ (events_kept (take cut (log_events c.registers.bus night quarters)) c in_range_lem)) in
+    log_along c ready (facts c.registers within) night quarters taken.in_course (omega arith) P
+    (cut_before c night quarters whole called.within taken) (cut_between c night quarters whole called.within taken) (cut_behind c night quarters whole called.within taken) in
+    let found = cut_along P (log_events c.registers.bus night quarters) c along cut _ refl (is_true _ (events_kept (take cut (log_events c.registers.bus night quarters)) c within)) in
     record { either = found.0; others = found.1 }

@@ -45,7 +45,7 @@ pub record Ready (r : Registers) : Type 0 where
   pub two : r.mode.lines ≡ Two
   pub up : r.entry.up ≡ true
   pub still : r.entry.shifts ≡ false
-  pub no_half_lem : r.half ≡ Half.Nothing
+  pub nothing_waits : r.half ≡ Half.Nothing
 
 two_lines : (mode : LineMode) → T (is_two mode) → mode ≡ Two
 two_lines One t = absurd t
@@ -69,7 +69,7 @@ ready_facts r t =
       two = two_lines r.mode.lines (and_left two _ t);
       up = is_true r.entry.up (and_left r.entry.up _ second);
       still = is_false r.entry.shifts (and_left still _ third);
-      no_half_lem = no_half_waits r.half (and_right unshifted free fourth);
+      nothing_waits = no_half_waits r.half (and_right unshifted free fourth);
     }
 
 -- ---- what an address and a byte come to
@@ -127,4 +127,4 @@ module _ (c : Controller) (ready : Ready c.registers) (ranged : InRange c.regist
 
   -- where the call begins
   pub standing_first : standing c c.registers.counter c.display c.registers.busy ≡ c
-  standing_first = ap (λ (h : Half). with c.display c.character (awaiting c.registers h c.registers.busy)) (sym ready.no_half_lem)
+  standing_first = ap (λ (h : Half). with c.display c.character (awaiting c.registers h c.registers.busy)) (sym ready.nothing_waits)

@@ -36,7 +36,7 @@ text_keeps_log c line characters small = record {
       of_call (λ (t : Controller). LooksSame c t night) c (Text line) characters small (same_self c night) λ e.
       let r = call_taken c (Text line) (length characters) e in
       let sixteen = sixteen_taken line (length characters) r.own in
-      looks_same c (end_of c (Text line) characters) night (ranged_alike c (Text line) characters r.in_range_lem) λ h. (
+      looks_same c (end_of c (Text line) characters) night (ranged_alike c (Text line) characters r.within) λ h. (
         text_keeps_cell line characters c.display (figure_cell night).0 sixteen (log_off_line line night (figure_cell night).0 h (inl (figure_cell_lem night h))),
         text_keeps_cell line characters c.display (mark_cell night).0 sixteen (log_off_line line night (mark_cell night).0 h (inr (mark_cell_lem night h))),
       );
@@ -71,7 +71,7 @@ logging_keeps_others c night quarters = record {
       of_call (λ (t : Controller). LooksSame c t other) c (Log night quarters) [] no_characters (same_self c other) λ e.
       let r = call_taken c (Log night quarters) 0 e in
       let t = night_taken c night quarters r.own in
-      looks_same c (end_of c (Log night quarters) []) other (ranged_alike c (Log night quarters) [] r.in_range_lem) λ h.
+      looks_same c (end_of c (Log night quarters) []) other (ranged_alike c (Log night quarters) [] r.within) λ h.
       let f = night_apart night other (figure_cell other).0 t.in_course h n (inl (figure_cell_lem other h)) in
       let m = night_apart night other (mark_cell other).0 t.in_course h n (inr (mark_cell_lem other h)) in (
         log_keeps_cell night quarters [] c.display (figure_cell other).0 f.0 f.1,

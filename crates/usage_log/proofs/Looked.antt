@@ -33,7 +33,7 @@ mark_cell_lem night h = eqb→eq _ _ (each (λ (k : ℕ). eqb (mark_cell k).0 (5
 -- ---- a look-up that is not refused
 
 pub record Looked (c : Controller) (night : ℕ) : Type 0 where
-  pub in_range_lem : in_range c.registers ≡ true
+  pub within : in_range c.registers ≡ true
   pub in_course : night ≤ last_night
 
 pub looked : (c : Controller) (night : ℕ) → look_up_answer c night ≡ 0 → Looked c night
@@ -43,7 +43,7 @@ looked c night e =
     let known : Bool = not (ltb last_night night) in
     let both : T (ranged && known) = (look_up_given_exactly c night).1.1.0 e in
     record {
-      in_range_lem = is_true _ (not_not (in_range c.registers) (and_left ranged known both));
+      within = is_true _ (not_not (in_range c.registers) (and_left ranged known both));
       in_course = nltb→le last_night night (and_right ranged known both);
     }
 

@@ -34,14 +34,14 @@ both true true e = (refl, refl)
 both true false e = absurd (omega arith)
 both false whole e = absurd (omega arith)
 
-module _ (c : Controller) (digits : ℕ) (phase : Phase) (form : Form) (rom before : List ℕ) (in_range_lem : in_range c.registers ≡ true) (room : length before ≡ most_dots) where
+module _ (c : Controller) (digits : ℕ) (phase : Phase) (form : Form) (rom before : List ℕ) (within : in_range c.registers ≡ true) (room : length before ≡ most_dots) where
   abbrev has : Bool
   has = has_digits c.registers.mode.lines digits
 
   by_digits : (b : Bool) → has ≡ b → answer_for c digits (length rom) (length before) ≡ cond (not b) 4 (cond (not (eqb (length rom) image_size)) 5 0)
   unfolding answer_for refusals first_of
-  by_digits true e = rw (in_range_lem, e, room, le-ltb most_dots (bytes_of c.registers.mode digits) (picture_small c.registers.mode digits e))
-  by_digits false e = rw (in_range_lem, e)
+  by_digits true e = rw (within, e, room, le-ltb most_dots (bytes_of c.registers.mode digits) (picture_small c.registers.mode digits e))
+  by_digits false e = rw (within, e)
 
   shown_refused : (n : ℕ) (b whole : Bool) → n ≡ cond (not b) 4 (cond (not whole) 5 0) → (n ≡ 0 → ⊥) → (shown : List ℕ) → refused_of n ≡ cond b (cond whole shown (refused_of 5)) (refused_of 4)
   shown_refused n true true e h shown = absurd (h e)
@@ -68,6 +68,9 @@ module _ (c : Controller) (digits : ℕ) (phase : Phase) (form : Form) (rom befo
     unfolding buffer_for
     dots_there dots bytes d b =
         (front_and_rest _ bytes (picture_of c digits rom phase) before dots d done (length_picture c digits rom phase ∙ sym b)).0
+
+    pub dots_counted : (dots : List ℕ) (bytes : ℕ) → dots ≡ buffer_for c digits rom phase before → bytes ≡ bytes_of c.registers.mode digits → length (take bytes dots) ≡ bytes
+    dots_counted dots bytes d b = ap length (dots_there dots bytes d b) ∙ length_picture c digits rom phase ∙ sym b
 
     -- ---- and its drawing
     pub drawing_puts : (dots out left : List ℕ) (answer : Answer) (n : ℕ) → dots ≡ picture_of c digits rom phase → most_drawn ≤ length out

@@ -1,10 +1,9 @@
 -- The picture's number decides; where it is 0 its dots are there, and their drawing has room.
-use Rattle.std.proofs.Common.{◌≡◌, ◌∙◌, ℕ, List, length, take, replicate, ap, sym, arith, length-take}
+use Rattle.std.proofs.Common.{◌≡◌, ◌∙◌, ℕ, List, length, replicate, sym, arith, length-take}
 use lib.ListN.{length-replicate}
 use Rattle.drawing.specs.declared.form.Form.TheVariants.{Text}
-use Rattle.picture.proofs.Lines.{length_picture}
 use Rattle.size.specs.Size.{most_dots}
-use Rattle.view.proofs.Shown.{refusal_puts, dots_there, drawing_puts}
+use Rattle.view.proofs.Shown.{refusal_puts, dots_there, dots_counted, drawing_puts}
 use Rattle.view.proofs.put.show.Goals as goal
 
 -- the dots before they are drawn
@@ -20,17 +19,17 @@ returns-then-refused-ne0 c =
 
 pub slice_bounds-dots-end : goal.slice_bounds-dots-end
 slice_bounds-dots-end c =
-    let there = dots_there c.args.controller c.args.digits c.args.phase Text c.args.rom.now blank c.requires.0 room (sym (c.number-refused.ensures ∙ c.picture.ensures.number) ∙ c.if-refused-ne0.false) _ _ c.picture.ensures.buffer c.byte_count-bytes.ensures in
-    let counted : length (take c.byte_count-bytes.result c.picture.new.out) ≡ c.byte_count-bytes.result = ap length there ∙ length_picture _ _ _ _ ∙ sym c.byte_count-bytes.ensures in
+    let zero = sym (c.number-refused.ensures ∙ c.picture.ensures.number) ∙ c.if-refused-ne0.false in
+    let counted = dots_counted _ _ _ Text _ blank c.requires.0 room zero _ _ c.picture.ensures.buffer c.byte_count-bytes.ensures in
     omega (arith, counted, length-take c.byte_count-bytes.result c.picture.new.out)
 
 pub slice_bounds-draw-end : goal.slice_bounds-draw-end
 slice_bounds-draw-end c =
-    let there = dots_there c.args.controller c.args.digits c.args.phase Text c.args.rom.now blank c.requires.0 room (sym (c.number-refused.ensures ∙ c.picture.ensures.number) ∙ c.if-refused-ne0.false) _ _ c.picture.ensures.buffer c.byte_count-bytes.ensures in
-    sym (ap length there ∙ length_picture _ _ _ _ ∙ sym c.byte_count-bytes.ensures)
+    let zero = sym (c.number-refused.ensures ∙ c.picture.ensures.number) ∙ c.if-refused-ne0.false in
+    sym (dots_counted _ _ _ Text _ blank c.requires.0 room zero _ _ c.picture.ensures.buffer c.byte_count-bytes.ensures)
 
 pub returns : goal.returns
 returns c =
     let zero = sym (c.number-refused.ensures ∙ c.picture.ensures.number) ∙ c.if-refused-ne0.false in
-    let there = dots_there c.args.controller c.args.digits c.args.phase Text c.args.rom.now blank c.requires.0 room zero _ _ c.picture.ensures.buffer c.byte_count-bytes.ensures in
-    drawing_puts c.args.controller c.args.digits c.args.phase _ c.args.rom.now blank c.requires.0 room zero _ _ _ _ _ there c.requires.1 c.draw.ensures c.value.ensures
+    let there = dots_there _ _ _ Text _ blank c.requires.0 room zero _ _ c.picture.ensures.buffer c.byte_count-bytes.ensures in
+    drawing_puts _ c.args.digits c.args.phase _ c.args.rom.now blank c.requires.0 room zero _ _ _ _ _ there c.requires.1 c.draw.ensures c.value.ensures
