@@ -1,9 +1,7 @@
 -- What a word means that a program is started with.
 use Prim.Native.Char.{code}
-use Rattle.std.specs.Prelude.{ℕ, leb, eqb, Bool, true, false, cond, ◌&&◌, List, [], ◌∷◌}
+use Rattle.std.specs.Prelude.{ℕ, leb, eqb, Bool, true, false, Option, Some, None, cond, ◌&&◌, List, [], ◌∷◌}
 use Rattle.text.specs.Text.{meant_by}
-use Rattle.arguments.specs.declared.number.Number.{Number}
-use Rattle.arguments.specs.declared.number.Number.TheVariants.{Decimal, NoNumber}
 
 -- ---- a number: decimal, plain digits only, no more than the most
 
@@ -15,8 +13,8 @@ abbrev pub is_empty : List ℕ → Bool
 is_empty [] = true
 is_empty (character ∷ word) = false
 
-unfoldable pub number_in : (most : ℕ) → List ℕ → Number
-number_in most word = cond (is_empty word) NoNumber (cond (all_digits word && leb (meant_by 0 word) most) (Decimal (meant_by 0 word)) NoNumber)
+unfoldable pub number_in : (most : ℕ) → List ℕ → Option ℕ
+number_in most word = cond (is_empty word) None (cond (all_digits word && leb (meant_by 0 word) most) (Some (meant_by 0 word)) None)
 
 -- ---- a word, letter by letter
 

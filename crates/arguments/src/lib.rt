@@ -4,5 +4,5 @@
 mod number;
 mod word;
 
-pub use number::{Number, number_in};
+pub use number::number_in;
 pub use word::is_word;

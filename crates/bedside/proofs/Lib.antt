@@ -1,4 +1,3 @@
-pub mod Ready
 pub mod Refused
 pub mod Nights
 pub mod Found

@@ -1,16 +1,15 @@
 -- Rules tested one after the other: the first that is met gives the answer.
-use Prim.Native.Nat.{ℕ, ◌≤◌, ◌<◌}
-use borrow.Author.Tests.{lt-ltb, le-ltb, eq-eqb, ne_eqb}
-use lib.Dec.{T, ltb, eqb}
-use mathlib.Core.Bool.{Bool, true, false, cond, not, ◌||◌}
+use Prim.Native.Nat.{ℕ}
+use Rattle.std.specs.Prelude.{⊤, Result, Ok, Err}
+use Rattle.std.specs.Result.{is_err}
+use lib.Dec.{T}
+use mathlib.Core.Bool.{Bool, true, false, cond, not}
 use mathlib.Core.List.{List, [], ◌∷◌}
 use mathlib.Core.Logic.{◌≢◌}
-use mathlib.Core.Path.{◌≡◌, refl, sym, ap, ◌∙◌}
-use Rattle.calls.specs.declared.Call.{Call}
-use Rattle.calls.specs.declared.Call.TheVariants.{Text, Log}
+use mathlib.Core.Path.{◌≡◌, refl, sym, ap, ◌∙◌, subst}
 use Rattle.condition.specs.First.{Rule, first_of}
-use Rattle.controller.specs.declared.Controller.{Controller}
-use Rattle.bedside.specs.Refusals.{text_length, last_line, text_rules, log_rules, own_rules}
+use Rattle.refusal.specs.Refusals.{number_of}
+use Rattle.refusal.specs.declared.Refusal.{Refusal}
 
 pub met_first : (rule : Rule) (rules : List Rule) → rule.condition ≡ true → rule.number ≡ first_of (rule ∷ rules) 0
 unfolding first_of
@@ -37,23 +36,7 @@ unmet rule rules n = by_condition rule.condition
 pub told_not : {test told : Bool} {b : Bool} → told ≡ test → not told ≡ b → not test ≡ b
 told_not e p = ap not (sym e) ∙ p
 
--- ---- 18: not 16 characters, or no such line
-
-module _ (line count : ℕ) where
-  pub other_count : (count ≡ text_length → ⊥) → (not (eqb count text_length) || ltb last_line line) ≡ true
-  other_count n = rw (ne_eqb count text_length n) refl
-
-  pub other_line : count ≡ text_length → last_line < line → (not (eqb count text_length) || ltb last_line line) ≡ true
-  other_line e h = rw (eq-eqb count text_length e) (lt-ltb last_line line h)
-
-  pub text_fits : count ≡ text_length → line ≤ last_line → (not (eqb count text_length) || ltb last_line line) ≡ false
-  text_fits e h = rw (eq-eqb count text_length e) (le-ltb last_line line h)
-
--- ---- which call it is
-
-module _ (c : Controller) (count : ℕ) {call : Call} {answer : ℕ} where
-  pub text_answers : {line : ℕ} → call ≡ Text line → answer ≡ first_of (text_rules line count) 0 → answer ≡ first_of (own_rules c call count) 0
-  text_answers e p = rw e p
-
-  pub log_answers : {night quarters : ℕ} → call ≡ Log night quarters → answer ≡ first_of (log_rules c night quarters) 0 → answer ≡ first_of (own_rules c call count) 0
-  log_answers e p = rw e p
+-- 0 is answered where the call is done
+pub done_zero : {A : Type 0} (r : Result A Refusal) → is_err r ≡ false → number_of r ≡ 0
+done_zero (Ok x) e = refl
+done_zero (Err refusal) e = absurd (subst (λ (b : Bool). cond b ⊤ ⊥) e tt)

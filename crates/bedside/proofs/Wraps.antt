@@ -1,46 +1,65 @@
 -- The flags among the bytes of answers, looked through one a turn, and that they are what the answers say.
-use Prim.Native.Nat.{ℕ, ◌+◌, ◌-◌, ◌≤◌, ◌<◌}
-use borrow.Author.Tests.{eq-eqb, ne_eqb}
+use Prim.Native.Nat.{ℕ, ◌<◌}
+use Rattle.std.proofs.Common.{Bor, Some}
+use Rattle.std.proofs.lemmas.Iterator.{YieldsList}
+use Rattle.std.proofs.lemmas.List.{take_at, drop_at}
+use Rattle.std.specs.Iterator.{AlwaysYields}
+use Rattle.std.specs.List.{list_any}
+use Rattle.std.specs.Slice.Iter.{chunks_exact_steps}
+use Rattle.std.specs.declared.slice.ChunksExact.{ChunksExact}
 use lib.Dec.{eqb}
-use lib.ListN.{length, drop, get_or, length-drop}
+use lib.ListN.{length, take, drop, get_or, length-append}
 use mathlib.Core.Bool.{Bool, true, false, not, ◌||◌}
-use mathlib.Core.List.{List, [], ◌∷◌}
-use mathlib.Core.Logic.{◌≢◌}
-use mathlib.Core.Path.{◌≡◌, refl, ap, ◌∙◌}
+use mathlib.Core.List.{List, [], ◌∷◌, ◌++◌}
+use mathlib.Core.Path.{◌≡◌, refl, sym, ap, ◌∙◌}
 use native.Mathlib.Omega.{arith}
 use Rattle.condition.specs.Flag.{flag_number}
 use Rattle.controller.specs.Answers.{Said}
-use Rattle.record.proofs.FrontEvents.{drop_three}
 use Rattle.run.specs.Run.{answer_bytes}
 use Rattle.bedside.specs.Panel.{any_wrap}
 use Rattle.bedside.specs.Promises.{any_third}
 
--- ---- a flag a turn
+-- ---- the answers one by one
 
-module _ (bytes : List ℕ) (at : ℕ) (third : 2 ≤ at) where
-  any_from : at < length bytes → any_third (drop (at - 2) bytes) ≡ (not (eqb (get_or bytes at 0) 0) || any_third (drop (at + 3 - 2) bytes))
-  unfolding any_third
-  any_from h =
-      let here : at - 2 + 2 ≡ at = omega arith in
-      let next : at - 2 + 3 ≡ at + 3 - 2 = omega arith in
-      ap any_third (drop_three bytes (at - 2) (omega arith)) ∙ rw (here, next) refl
+unfoldable pub threes : List ℕ → List (List ℕ)
+threes [] = []
+threes (number ∷ []) = []
+threes (number ∷ value ∷ []) = []
+threes (number ∷ value ∷ flag ∷ rest) = (number ∷ value ∷ flag ∷ []) ∷ threes rest
 
-  pub flag_found : at < length bytes → get_or bytes at 0 ≢ 0 → any_third (drop (at - 2) bytes) ≡ true
-  flag_found h n = any_from h ∙ rw (ne_eqb (get_or bytes at 0) 0 n) refl
+abbrev pub wraps : List ℕ → Bool
+wraps answer = not (eqb (get_or answer 2 0) 0)
 
-  pub flag_passed : at < length bytes → get_or bytes at 0 ≡ 0 → any_third (drop (at - 2) bytes) ≡ any_third (drop (at + 3 - 2) bytes)
-  flag_passed h e = any_from h ∙ rw (eq-eqb (get_or bytes at 0) 0 e) refl
+any_threes : (bytes : List ℕ) → list_any wraps (threes bytes) ≡ any_third bytes
+unfolding threes any_third
+any_threes [] = refl
+any_threes (number ∷ []) = refl
+any_threes (number ∷ value ∷ []) = refl
+any_threes (number ∷ value ∷ flag ∷ rest) = ap (λ (b : Bool). not (eqb flag 0) || b) (any_threes rest)
 
-  -- fewer than three are left
-  pub no_flag : length bytes ≤ at → any_third (drop (at - 2) bytes) ≡ false
-  unfolding any_third
-  no_flag h = few (drop (at - 2) bytes) (omega (arith, length-drop (at - 2) bytes))
-    where
-      few : (left : List ℕ) → length left < 3 → any_third left ≡ false
-      few [] l = refl
-      few (number ∷ []) l = refl
-      few (number ∷ value ∷ []) l = refl
-      few (number ∷ value ∷ flag ∷ left) l = absurd (omega arith)
+too_few : (s : ChunksExact ℕ) → s.size ≡ 3 → length s.rest.now < 3 → (x : Bor (List ℕ)) (t : ChunksExact ℕ) → chunks_exact_steps s (Some x) t → ⊥
+too_few s size few x t given = absurd (omega (arith, ap length given.1.0, length-append x.now t.rest.now, given.1.1))
+
+gives_threes : (s : ChunksExact ℕ) (bytes : List ℕ) → s.size ≡ 3 → s.rest.now ≡ bytes → AlwaysYields chunks_exact_steps (λ x. x.now) s (threes bytes)
+unfolding threes
+gives_threes s [] size e = too_few s size (omega (arith, ap length e))
+gives_threes s (number ∷ []) size e = too_few s size (omega (arith, ap length e))
+gives_threes s (number ∷ value ∷ []) size e = too_few s size (omega (arith, ap length e))
+gives_threes s (number ∷ value ∷ flag ∷ rest) size e = (
+  (λ t given. absurd (omega (arith, ap length e, given.1.0, size))),
+  (λ x t given.
+      let cut : x.now ++ t.rest.now ≡ number ∷ value ∷ flag ∷ rest = sym given.1.0 ∙ e in
+      let long : length x.now ≡ 3 = given.1.1 ∙ size in (
+        sym (take_at x.now t.rest.now 3 long) ∙ ap (take 3) cut,
+        gives_threes t rest (given.0 ∙ size) (sym (drop_at x.now t.rest.now 3 long) ∙ ap (drop 3) cut),
+      )),
+)
+
+pub third_of_any : (s : ChunksExact ℕ) (bytes : List ℕ) → s.size ≡ 3 → s.rest.now ≡ bytes → YieldsList chunks_exact_steps (λ x. x.now) s (threes bytes)
+third_of_any s bytes size e = record { runs = gives_threes s bytes size e }
+
+pub any_of_threes : (bytes : List ℕ) (r : Bool) → r ≡ list_any wraps (threes bytes) → r ≡ any_third bytes
+any_of_threes bytes r e = e ∙ any_threes bytes
 
 -- ---- what the answers say
 

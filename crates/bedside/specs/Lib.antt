@@ -1,4 +1,3 @@
-pub mod Answers
 pub mod Log
 pub mod Refusals
 pub mod Panel

@@ -5,7 +5,7 @@ use Rattle.calls.specs.Events.{call_events}
 use Rattle.calls.specs.declared.Call.{Call}
 use Rattle.controller.specs.Answers.{Said}
 use Rattle.controller.specs.declared.Controller.{Controller}
-use Rattle.bedside.specs.Answers.{number_of}
+use Rattle.refusal.specs.Refusals.{number_of}
 use Rattle.bedside.specs.Refusals.{call_answer}
 use Rattle.bedside.specs.declared.Outcome.{Outcome}
 

@@ -3,16 +3,8 @@ ghost use Rattle.std.specs.Prelude.{◌≡◌};
 ghost use Rattle.bedside.specs.Promises.{any_third};
 
 // Each answer is three bytes, its wrap the third.
-#[tactic(auto, using(crate::proofs::Wraps::flag_found, crate::proofs::Wraps::flag_passed, crate::proofs::Wraps::no_flag))]
 pub(crate) fn any_wrap(answers: &[u8]) -> bool
     ensures { result ≡ any_third answers.now }
 {
-    let mut at = 2;
-    while at < answers.len() {
-        if answers[at] != 0 {
-            return true;
-        }
-        at += 3;
-    }
-    false
+    answers.chunks_exact(3).any(|answer| answer[2] != 0)
 }

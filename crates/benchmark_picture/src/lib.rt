@@ -1,21 +1,16 @@
 // What the benchmark calls from C: the picture of the part that a record leaves.
 #![tactic(auto)]
 
-ghost use Rattle.std.specs.Prelude.{◌≡◌};
-ghost use Rattle.benchmark_picture.specs.Drawn.{phase_of, Drawn};
+ghost use Rattle.benchmark_picture.specs.Drawn.{Drawn};
 
 use dots::Phase;
 use picture::picture;
-use run::run;
-
-fn phase(dark: bool) -> Phase
-    ensures { result ≡ phase_of dark }
-{
-    if dark { Phase::Dark } else { Phase::Plain }
-}
+use refusal::number_of;
+use run::{run, started};
 
 // The picture, and the same one `again` times more, which changes nothing. The answer is the picture's number; a refused
 // record leaves the part just switched on.
+#[tactic(auto, using(crate::proofs::Left::part_left))]
 pub fn benchmark_picture(
     bytes: &[u8],
     digits: u8,
@@ -26,14 +21,11 @@ pub fn benchmark_picture(
 ) -> u8
     ensures { Drawn bytes.now digits rom.now dark out.old result out.new }
 {
-    let ran = run(bytes);
-    let part = ran.controller;
-    let shown = phase(dark);
-    let mut number = picture(part, digits, rom, shown, out).number();
-    let mut left = again;
-    while 0 < left {
-        number = picture(part, digits, rom, shown, out).number();
-        left -= 1;
+    let part = run(bytes).unwrap_or(started());
+    let phase = Phase::from(dark);
+    let mut answer = picture(part, digits, rom, phase, out);
+    for _ in 0..again {
+        answer = picture(part, digits, rom, phase, out);
     }
-    number
+    number_of(&answer)
 }

@@ -1,7 +1,7 @@
 -- Every transfer and every wait keeps a controller in range, and a part just switched on is in range.
 use Prim.Native.Nat.{ℕ, ◌%◌}
 use lib.Dec.{T, le→leb, lit≤}
-use lib.ListN.{set, replicate}
+use lib.ListN.{replicate}
 use mathlib.Core.Bool.{Bool, true, false, not}
 use mathlib.Core.List.{List, [], ◌∷◌}
 use mathlib.Core.Path.{◌≡◌}
@@ -14,9 +14,9 @@ use Rattle.controller.specs.Told.{Told, addressed}
 use Rattle.controller.specs.declared.Controller.{Controller}
 use Rattle.controller.specs.declared.registers.Registers.{Registers}
 use Rattle.counters.proofs.Laws.{home_exists, no_shift_exists, step_exists, move_exists}
-use Rattle.counters.specs.Address.{display, has_display, has_character}
+use Rattle.counters.specs.Address.{has_display, has_character}
 use Rattle.counters.specs.Counter.{has_counter}
-use Rattle.counters.specs.Shift.{shift, has_shift}
+use Rattle.counters.specs.Shift.{has_shift}
 use Rattle.counters.specs.declared.LineMode.{LineMode}
 use Rattle.counters.specs.declared.LineMode.TheVariants.{One, Two}
 use Rattle.counters.specs.declared.counter.Counter.{Counter}

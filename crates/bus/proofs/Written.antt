@@ -15,9 +15,8 @@ use Rattle.controller.specs.Result.{Result}
 use Rattle.controller.specs.Told.{Told, addressed, carried}
 use Rattle.controller.specs.declared.Controller.{Controller}
 use Rattle.counters.proofs.Laws.{cell_exists}
-use Rattle.counters.specs.Address.{display, has_character, cell_of}
+use Rattle.counters.specs.Address.{has_character, cell_of}
 use Rattle.counters.specs.Counter.{has_counter}
-use Rattle.counters.specs.Shift.{shift}
 use Rattle.counters.specs.declared.LineMode.{LineMode}
 use Rattle.counters.specs.declared.counter.Counter.{Counter}
 use Rattle.counters.specs.declared.counter.Counter.TheVariants.{Display, Character}

@@ -7,14 +7,15 @@ ghost use Rattle.bus.specs.Transfer.{told, transfer_of, wait_of};
 pub mod turn;
 
 use controller::Controller;
-use controller::answer::Answer;
+use controller::answer::Reply;
 use event::Kind;
+use refusal::Refusal;
 
-// What a transfer or a wait comes to.
+// What a transfer or a wait comes to. A refusal leaves a controller too, so it stands beside the answer and not in it.
 #[derive(Clone, Copy)]
 pub struct Outcome {
     pub controller: Controller,
-    pub answer: Answer,
+    pub answer: Result<Reply, Refusal>,
     // Whether the counter passed an end.
     pub wrap: bool,
 }
@@ -23,26 +24,29 @@ pub struct Outcome {
 pub fn transfer(controller: Controller, kind: Kind, value: u8) -> Outcome
     ensures { told result ≡ transfer_of controller kind value }
 {
-    let registers = controller.registers;
-    if !registers.in_range() {
+    if !controller.registers.in_range() {
         return Outcome {
             controller,
-            answer: Answer::NotInRange,
+            answer: Err(Refusal::NotInRange),
             wrap: false,
         };
     }
     let mut display = controller.display;
     let mut character = controller.character;
-    let effect = turn::transferred(&mut display, &mut character, registers, kind, value);
-    let after = effect.registers;
-    let answer = effect.answer;
+    let effect = turn::transferred(
+        &mut display,
+        &mut character,
+        controller.registers,
+        kind,
+        value,
+    );
     Outcome {
         controller: Controller {
             display,
             character,
-            registers: after,
+            registers: effect.registers,
         },
-        answer,
+        answer: effect.answer,
         wrap: effect.wrap,
     }
 }
@@ -51,21 +55,19 @@ pub fn transfer(controller: Controller, kind: Kind, value: u8) -> Outcome
 pub fn wait(controller: Controller, ticks: u16) -> Outcome
     ensures { told result ≡ wait_of controller ticks }
 {
-    let registers = controller.registers;
-    if !registers.in_range() {
+    if !controller.registers.in_range() {
         return Outcome {
             controller,
-            answer: Answer::NotInRange,
+            answer: Err(Refusal::NotInRange),
             wrap: false,
         };
     }
-    let after = registers.waited(ticks);
     Outcome {
         controller: Controller {
-            registers: after,
+            registers: controller.registers.waited(ticks),
             ..controller
         },
-        answer: Answer::Done(0),
+        answer: Ok(Reply::Done(0)),
         wrap: false,
     }
 }

@@ -12,10 +12,10 @@ mod text_call;
 
 use halves::LineCount;
 use log_call::put_log_call;
-pub use nights::{LAST_NIGHT, MARK, figure_address, mark_address};
+pub use nights::{MARK, Night};
 use text_call::put_text_call;
 
-#[derive(Clone, Copy)]
+#[derive(Clone, Copy, PartialEq, Eq)]
 pub enum Call {
     // The line that the characters are written on.
     Text(u8),
@@ -40,6 +40,6 @@ pub fn put_call(
 {
     match call {
         Call::Text(line) => put_text_call(bus, line, characters, place, out),
-        Call::Log(night, quarters) => put_log_call(bus, night, quarters, place, out),
+        Call::Log(number, quarters) => put_log_call(bus, Night { number }, quarters, place, out),
     }
 }

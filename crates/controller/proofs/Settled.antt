@@ -1,31 +1,29 @@
 -- Answers and effects are had back from what they tell.
-use lib.Dec.{eqb}
-use mathlib.Core.Bool.{Bool, cond}
-use mathlib.Core.Path.{◌≡◌, ap, refl}
-use Rattle.condition.proofs.Settled.{settled, settled_by_both}
+use Rattle.std.specs.Prelude.{Result as Answer, Ok, Err}
+use mathlib.Core.Path.{◌≡◌, ap, sym}
+use Rattle.condition.proofs.Settled.{settled}
+use Rattle.condition.proofs.Tests.{neqb→ne}
+use Rattle.refusal.proofs.Settled.{numbers_differ, none_is_done, none_is_first_half}
+use Rattle.refusal.specs.declared.Refusal.{Refusal}
 use Rattle.controller.specs.Answers.{Said, wrapping, said_of}
 use Rattle.controller.specs.Theorems.{EffectSettled}
 use Rattle.controller.specs.Told.{Told, told_with}
-use Rattle.controller.specs.declared.answer.Answer.{Answer}
-use Rattle.controller.specs.declared.answer.Answer.TheVariants.{Done, FirstHalf, Busy, HalvesDisagree, NoSuchAddress, NotInRange}
+use Rattle.controller.specs.declared.answer.Reply.{Reply}
+use Rattle.controller.specs.declared.answer.Reply.TheVariants.{Done, FirstHalf}
 use Rattle.controller.specs.declared.effect.Effect.{Effect}
 use Rattle.controller.specs.declared.registers.Registers.{Registers}
 
-pub answer_of : Said → Answer
-answer_of s =
-    cond (eqb s.number 0) (Done s.value)
-    (cond (eqb s.number 20) (FirstHalf s.value)
-    (cond (eqb s.number 1) Busy (cond (eqb s.number 2) HalvesDisagree (cond (eqb s.number 3) NoSuchAddress NotInRange))))
-
--- whatever is said of the wrap
-pub answer_back : (a : Answer) (w : Bool) → answer_of (wrapping w (said_of a)) ≡ a
-unfolding answer_of
-answer_back (Done v) w = refl
-answer_back (FirstHalf v) w = refl
-answer_back Busy w = refl
-answer_back HalvesDisagree w = refl
-answer_back NoSuchAddress w = refl
-answer_back NotInRange w = refl
+-- an answer is had back from its number and its value
+pub same_answer : (a b : Answer Reply Refusal) → (said_of a).number ≡ (said_of b).number → (said_of a).value ≡ (said_of b).value → a ≡ b
+same_answer (Ok (Done v)) (Ok (Done w)) e f = ap (λ x. Ok (Done x)) f
+same_answer (Ok (Done v)) (Ok (FirstHalf w)) e f = absurd (neqb→ne 0 20 tt e)
+same_answer (Ok (Done v)) (Err s) e f = absurd (none_is_done s (sym e))
+same_answer (Ok (FirstHalf v)) (Ok (Done w)) e f = absurd (neqb→ne 20 0 tt e)
+same_answer (Ok (FirstHalf v)) (Ok (FirstHalf w)) e f = ap (λ x. Ok (FirstHalf x)) f
+same_answer (Ok (FirstHalf v)) (Err s) e f = absurd (none_is_first_half s (sym e))
+same_answer (Err r) (Ok (Done w)) e f = absurd (none_is_done r e)
+same_answer (Err r) (Ok (FirstHalf w)) e f = absurd (none_is_first_half r e)
+same_answer (Err r) (Err s) e f = ap Err (numbers_differ r s e)
 
 abbrev said_by : Effect → Said
 said_by e = wrapping e.wrap (said_of e.answer)
@@ -33,12 +31,9 @@ said_by e = wrapping e.wrap (said_of e.answer)
 -- two effects with the same registers that tell the same are equal
 pub same_effect : (e f : Effect) {r : Registers} {s : Said} → e.registers ≡ r → f.registers ≡ r → said_by e ≡ s → said_by f ≡ s → e ≡ f
 same_effect e f p q t u =
-    settled_by_both {r = e} {s = f} (λ x. x.registers) (λ x. said_by x) (λ r s. record { registers = r; answer = answer_of s; wrap = s.wrap })
-    (λ x. ap (λ a. record { registers = x.registers; answer = a; wrap = x.wrap }) (answer_back x.answer x.wrap))
-    p
-    q
-    t
-    u
+    let same : said_by e ≡ said_by f = settled t u in
+    let answer = same_answer e.answer f.answer (ap (λ (x : Said). x.number) same) (ap (λ (x : Said). x.value) same) in
+    λ i. record { registers = settled p q i; answer = answer i; wrap = (same i).wrap }
 
 pub effect_settled : EffectSettled
 effect_settled e f d m d' m' t p q =

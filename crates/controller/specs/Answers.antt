@@ -1,7 +1,9 @@
 -- "Refusal numbers": this paper's number, and the value read, for each answer to a transfer or a wait; and beside them the wrap.
-use Rattle.std.specs.Prelude.{ℕ, Bool, false}
-use Rattle.controller.specs.declared.answer.Answer.{Answer}
-use Rattle.controller.specs.declared.answer.Answer.TheVariants.{Done, FirstHalf, Busy, HalvesDisagree, NoSuchAddress, NotInRange}
+use Rattle.std.specs.Prelude.{ℕ, Bool, false, Result, Ok, Err}
+use Rattle.refusal.specs.Refusals.{number}
+use Rattle.refusal.specs.declared.Refusal.{Refusal}
+use Rattle.controller.specs.declared.answer.Reply.{Reply}
+use Rattle.controller.specs.declared.answer.Reply.TheVariants.{Done, FirstHalf}
 
 -- what a caller is told: a number, the value read, and whether the counter passed an end (request 8/12)
 pub record Said : Type 0 where
@@ -21,10 +23,7 @@ wrapping w s = record { number = s.number; value = s.value; wrap = w }
 abbrev pub refused : ℕ → Said
 refused n = saying n 0
 
-abbrev pub said_of : Answer → Said
-said_of (Done v) = saying 0 v
-said_of (FirstHalf v) = saying 20 v
-said_of Busy = refused 1
-said_of HalvesDisagree = refused 2
-said_of NoSuchAddress = refused 3
-said_of NotInRange = refused 16
+abbrev pub said_of : Result Reply Refusal → Said
+said_of (Ok (Done v)) = saying 0 v
+said_of (Ok (FirstHalf v)) = saying 20 v
+said_of (Err refusal) = refused (number refusal)

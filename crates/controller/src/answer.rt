@@ -1,43 +1,34 @@
-// The answers to a transfer or a wait. A refusal carries no value.
+// The answers to a transfer or a wait: a reply, or a refusal, which carries no value.
 ghost use Rattle.std.specs.Prelude.{◌≡◌};
 ghost use Rattle.controller.specs.Answers.{said_of};
 
-#[derive(Clone, Copy)]
-pub enum Answer {
+use refusal::Refusal;
+
+// What was read; 20, for a first half, is no refusal.
+#[derive(Clone, Copy, PartialEq, Eq)]
+pub enum Reply {
     Done(u8),
     FirstHalf(u8),
-    Busy,
-    HalvesDisagree,
-    NoSuchAddress,
-    NotInRange,
 }
 
-impl Answer {
-    // This paper's number.
-    pub fn number(self) -> u8
-        ensures { result ≡ (said_of self).number }
-    {
-        match self {
-            Answer::Done(_) => 0,
-            Answer::FirstHalf(_) => 20,
-            Answer::Busy => 1,
-            Answer::HalvesDisagree => 2,
-            Answer::NoSuchAddress => 3,
-            Answer::NotInRange => 16,
-        }
+// This paper's number.
+pub fn number_of(answer: Result<Reply, Refusal>) -> u8
+    ensures { result ≡ (said_of answer).number }
+{
+    match answer {
+        Ok(Reply::Done(_)) => 0,
+        Ok(Reply::FirstHalf(_)) => 20,
+        Err(refusal) => u8::from(refusal),
     }
+}
 
-    // The value read; 0 beside a refusal.
-    pub fn value(self) -> u8
-        ensures { result ≡ (said_of self).value }
-    {
-        match self {
-            Answer::Done(read) => read,
-            Answer::FirstHalf(read) => read,
-            Answer::Busy => 0,
-            Answer::HalvesDisagree => 0,
-            Answer::NoSuchAddress => 0,
-            Answer::NotInRange => 0,
-        }
+// The value read; 0 beside a refusal.
+pub fn value_of(answer: Result<Reply, Refusal>) -> u8
+    ensures { result ≡ (said_of answer).value }
+{
+    match answer {
+        Ok(Reply::Done(read)) => read,
+        Ok(Reply::FirstHalf(read)) => read,
+        Err(_) => 0,
     }
 }

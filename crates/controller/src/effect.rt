@@ -1,10 +1,12 @@
 // What a transfer or a wait comes to: the registers afterwards, the answer, and whether the counter passed an end.
-use super::answer::Answer;
+// The outcome of a call holds the whole controller; one type for both would name neither.
+use super::answer::Reply;
 use super::registers::Registers;
+use refusal::Refusal;
 
-#[derive(Clone, Copy)]
+#[derive(Clone, Copy, PartialEq, Eq)]
 pub struct Effect {
     pub registers: Registers,
-    pub answer: Answer,
+    pub answer: Result<Reply, Refusal>,
     pub wrap: bool,
 }

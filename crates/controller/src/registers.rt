@@ -10,27 +10,27 @@ use counters::shift::Shift;
 use halves::{Half, LineCount};
 
 // N and F.
-#[derive(Clone, Copy)]
+#[derive(Clone, Copy, PartialEq, Eq)]
 pub struct Mode {
     pub lines: LineMode,
     pub tall: bool,
 }
 
 // The direction, and shift on write.
-#[derive(Clone, Copy)]
+#[derive(Clone, Copy, PartialEq, Eq)]
 pub struct Entry {
     pub up: bool,
     pub shifts: bool,
 }
 
-#[derive(Clone, Copy)]
+#[derive(Clone, Copy, PartialEq, Eq)]
 pub struct Lights {
     pub display: bool,
     pub cursor: bool,
     pub blink: bool,
 }
 
-#[derive(Clone, Copy)]
+#[derive(Clone, Copy, PartialEq, Eq)]
 pub struct Registers {
     pub counter: Counter,
     pub shift: Shift,
@@ -47,44 +47,33 @@ impl Registers {
     pub fn in_range(self) -> bool
         ensures { result ≡ in_range self }
     {
-        let mode = self.mode;
-        let lines = mode.lines;
-        let counter = self.counter;
-        let shift = self.shift;
-        let half = self.half;
-        let bus = self.bus;
-        counter.exists(lines)
-            & (shift.exists(lines) & (half.fits(bus) & (self.busy <= Controller::LONGEST)))
+        let lines = self.mode.lines;
+        self.counter.exists(lines)
+            & (self.shift.exists(lines)
+                & (self.half.fits(self.bus) & (self.busy <= Controller::LONGEST)))
     }
 
     #[tactic(auto, unfolding(crate::specs::Part::waited))]
     pub fn waited(self, ticks: u16) -> Registers
         ensures { result ≡ waited_of self ticks }
     {
-        let mut busy: u16 = 0;
-        if ticks < self.busy {
-            busy = self.busy - ticks;
+        Registers {
+            busy: self.busy.saturating_sub(ticks),
+            ..self
         }
-        Registers { busy, ..self }
     }
 
     // The counter one step on, and whether it passed an end.
     pub fn counter_stepped(self, up: bool) -> Stepped
         ensures { result ≡ stepped_of self.mode.lines up self.counter }
     {
-        let mode = self.mode;
-        let lines = mode.lines;
-        let counter = self.counter;
-        counter.step(lines, up)
+        self.counter.step(self.mode.lines, up)
     }
 
     // The shift once the display has moved.
     pub fn shift_moved(self, right: bool) -> Shift
         ensures { result ≡ shift_moved right self }
     {
-        let mode = self.mode;
-        let lines = mode.lines;
-        let shift = self.shift;
-        shift.moved(lines, right)
+        self.shift.moved(self.mode.lines, right)
     }
 }

@@ -16,6 +16,11 @@ character n = record { 0 = n }
 abbrev pub cell : ℕ → Cell
 cell n = record { 0 = n }
 
+-- N = 0 is one line
+abbrev pub line_mode : Bool → LineMode
+line_mode false = One
+line_mode true = Two
+
 -- with one line the addresses 00 to 4F; with two lines 00 to 27, and 40 to 67
 unfoldable pub has_display : LineMode → DisplayAddress → Bool
 has_display One a = leb a.0 0x4F

@@ -1,20 +1,21 @@
 // Addresses on the bus and cells of storage, kept apart: only the line mode turns one into the other.
-ghost use Rattle.std.specs.Prelude.{true, false, ◌≡◌};
-ghost use Rattle.counters.specs.Address.{display, has_display, has_character, cell_of, step_display, step_character, passes_display, passes_character};
+ghost use Rattle.std.specs.Prelude.{◌≡◌};
+ghost use Rattle.counters.specs.Address.{has_display, has_character, cell_of, step_display, step_character, passes_display, passes_character};
 
 use super::LineMode;
-use super::wrap::{next, previous, wrapped};
+use super::wrap::wrapped;
 
 // An address of display memory, as the bus names it.
-#[derive(Clone, Copy)]
+#[derive(Clone, Copy, PartialEq, Eq)]
 pub struct DisplayAddress(pub u8);
 
 // An address of character memory, as the bus names it.
-#[derive(Clone, Copy)]
+// A trait over both addresses would hand these methods a line mode that they ignore.
+#[derive(Clone, Copy, PartialEq, Eq)]
 pub struct CharacterAddress(pub u8);
 
 // A place among the 80 bytes of display storage.
-#[derive(Clone, Copy)]
+#[derive(Clone, Copy, PartialEq, Eq)]
 pub struct Cell(pub u8);
 
 impl DisplayAddress {
@@ -47,13 +48,12 @@ impl DisplayAddress {
         let n = self.0;
         match mode {
             LineMode::One => DisplayAddress(wrapped(up, 0x4f, n)),
-            LineMode::Two => {
-                if up {
-                    DisplayAddress(next_of_two(n))
-                } else {
-                    DisplayAddress(previous_of_two(n))
-                }
-            }
+            // With two lines there is no address between 27 and 40.
+            LineMode::Two => match (up, n) {
+                (true, 0x27) => DisplayAddress(0x40),
+                (false, 0x40) => DisplayAddress(0x27),
+                _ => DisplayAddress(wrapped(up, 0x67, n)),
+            },
         }
     }
 
@@ -76,21 +76,6 @@ impl DisplayAddress {
     }
 }
 
-// With two lines there is no address between 27 and 40.
-#[tactic(auto, unfolding(crate::specs::Address::step_display))]
-fn next_of_two(n: u8) -> u8
-    ensures { result ≡ (step_display LineMode.Two true (display n)).0 }
-{
-    if n == 0x27 { 0x40 } else { next(0x67, n) }
-}
-
-#[tactic(auto, unfolding(crate::specs::Address::step_display))]
-fn previous_of_two(n: u8) -> u8
-    ensures { result ≡ (step_display LineMode.Two false (display n)).0 }
-{
-    if n == 0x40 { 0x27 } else { previous(0x67, n) }
-}
-
 impl CharacterAddress {
     #[tactic(auto, unfolding(crate::specs::Address::has_character))]
     pub(crate) fn exists(self) -> bool
@@ -105,6 +90,7 @@ impl CharacterAddress {
     {
         CharacterAddress(wrapped(up, 0x3f, self.0))
     }
+
     // Whether the step from here passes an end.
     #[tactic(auto, using(crate::proofs::Ends::passes_up, crate::proofs::Ends::passes_down), unfolding(crate::specs::Address::passes_character, crate::specs::Address::ends_character, crate::specs::Address::step_character, crate::specs::Wrap::next, crate::specs::Wrap::previous))]
     pub(crate) fn passes(self, up: bool) -> bool

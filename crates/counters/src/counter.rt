@@ -5,21 +5,21 @@ ghost use Rattle.counters.specs.Counter.{has_counter, stepped_of, number_on};
 use super::LineMode;
 use super::address::{CharacterAddress, DisplayAddress};
 
-#[derive(Clone, Copy)]
+#[derive(Clone, Copy, PartialEq, Eq)]
 pub enum Counter {
     Display(DisplayAddress),
     Character(CharacterAddress),
 }
 
-// One step: the counter behind it, and whether it passed an end.
-#[derive(Clone, Copy)]
+// One step: the counter behind it, and whether it passed an end. A transfer's effect carries an answer too, so that the two are no one type.
+#[derive(Clone, Copy, PartialEq, Eq)]
 pub struct Stepped {
     pub counter: Counter,
     pub wrap: bool,
 }
 
 impl Counter {
-    #[tactic(auto, using(condition::proofs::Tests::met), unfolding(crate::specs::Counter::has_counter))]
+    #[tactic(auto, unfolding(crate::specs::Counter::has_counter))]
     pub fn exists(self, mode: LineMode) -> bool
         ensures { result ≡ has_counter mode self }
     {
@@ -30,7 +30,7 @@ impl Counter {
     }
 
     // One step within its memory, up or down.
-    #[tactic(auto, using(condition::proofs::Tests::met), unfolding(crate::specs::Counter::step_of, crate::specs::Counter::passes_of))]
+    #[tactic(auto, unfolding(crate::specs::Counter::step_of, crate::specs::Counter::passes_of))]
     pub fn step(self, mode: LineMode, up: bool) -> Stepped
         ensures { result ≡ stepped_of mode up self }
     {
@@ -46,8 +46,8 @@ impl Counter {
         }
     }
 
-    // The address as a number, whatever memory it belongs to.
-    #[tactic(auto, using(condition::proofs::Tests::met), unfolding(crate::specs::Counter::number_on))]
+    // The address as a number, whatever memory it belongs to: a part of the counter and no conversion.
+    #[tactic(auto, unfolding(crate::specs::Counter::number_on))]
     pub fn number(self) -> u8
         ensures { result ≡ number_on self }
     {

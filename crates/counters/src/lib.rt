@@ -2,6 +2,7 @@
 #![tactic(auto)]
 
 ghost use Rattle.std.specs.Prelude.{◌≡◌};
+ghost use Rattle.counters.specs.Address.{line_mode};
 ghost use Rattle.counters.specs.Shift.{last_shift};
 
 pub mod address;
@@ -10,10 +11,19 @@ pub mod shift;
 mod wrap;
 
 // N: how many lines the screen has.
-#[derive(Clone, Copy)]
+#[derive(Clone, Copy, PartialEq, Eq)]
 pub enum LineMode {
     One,
     Two,
+}
+
+// N = 0 is one line.
+impl From<bool> for LineMode {
+    ghost from_gives = { λ two mode. mode ≡ line_mode two };
+
+    fn from(two: bool) -> LineMode {
+        if two { LineMode::Two } else { LineMode::One }
+    }
 }
 
 impl LineMode {

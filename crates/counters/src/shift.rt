@@ -5,7 +5,7 @@ ghost use Rattle.counters.specs.Shift.{has_shift, move_of};
 use super::LineMode;
 use super::wrap::wrapped;
 
-#[derive(Clone, Copy)]
+#[derive(Clone, Copy, PartialEq, Eq)]
 pub struct Shift(pub u8);
 
 impl Shift {

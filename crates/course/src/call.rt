@@ -1,47 +1,41 @@
-// A request made to a part: the line that is said, and the call's own events.
-ghost use Rattle.std.specs.Prelude.{◌≤◌, length, [], ◌≡◌};
+// A request made to a part: the line that is said, and how many bytes the call's own events have.
+ghost use Rattle.std.specs.Prelude.{[], ◌≡◌};
 ghost use Rattle.course.specs.Course.{call_line};
-ghost use Rattle.course.specs.Promises.{call_room, said_line, Heard};
+ghost use Rattle.course.specs.Promises.{said_line, Heard};
 ghost use Rattle.course.specs.declared.request.Request.{Request};
 
 use super::request::Request;
-use super::verdict::{Said, Verdict};
-use bedside::{Night, answer_to, look_up};
+use super::verdict::Said;
+use bedside::{answer_to, look_up};
 use calls::{Call, put_call};
 use controller::Controller;
 
 #[tactic(auto, using(bedside::proofs::Called::put_taken))]
-fn make(part: Controller, call: Call, characters: &[u8], events: &mut [u8]) -> Verdict
-    requires { call_room ≤ length events.old }
+fn make(
+    part: Controller,
+    call: Call,
+    characters: &[u8],
+    events: &mut [u8; calls::MOST_BYTES],
+) -> (Said, usize)
     ensures { Heard part (Request.Make call) characters.now result events.new }
 {
-    let refused = answer_to(part, call, characters.len()).number();
-    if refused != 0 {
-        return Verdict {
-            said: Said::Refused(refused),
-            writes: true,
-            added: 0,
-        };
-    }
-    let registers = part.registers;
-    let bus = registers.bus;
-    let added = put_call(bus, call, characters, 0, events);
-    Verdict {
-        said: Said::Done,
-        writes: true,
-        added,
+    match answer_to(part, call, characters.len()) {
+        Err(refusal) => (Said::Refused(refusal), 0),
+        Ok(()) => {
+            let added = put_call(part.registers.bus, call, characters, 0, events);
+            (Said::Done, added)
+        }
     }
 }
 
-#[tactic(auto, using(crate::proofs::Heard::written_said, crate::proofs::Heard::unwritten_said, crate::proofs::Heard::not_in_range_said, crate::proofs::Heard::bad_night_said))]
+#[tactic(auto, using(crate::proofs::Heard::figure_said, crate::proofs::Heard::refused_said))]
 fn look(part: Controller, night: u8) -> Said
     ensures { said_line result ≡ call_line part (Request.LookUp night) [] }
 {
     match look_up(part, night) {
-        Night::Written(quarters) => Said::Figure(quarters),
-        Night::NotYetWritten => Said::NotYetWritten,
-        Night::NotInRange => Said::Refused(16),
-        Night::BadNight => Said::Refused(11),
+        Ok(Some(quarters)) => Said::Figure(quarters),
+        Ok(None) => Said::NotYetWritten,
+        Err(refusal) => Said::Refused(refusal),
     }
 }
 
@@ -50,17 +44,12 @@ pub(crate) fn ask(
     part: Controller,
     request: Request,
     characters: &[u8],
-    events: &mut [u8],
-) -> Verdict
-    requires { call_room ≤ length events.old }
+    events: &mut [u8; calls::MOST_BYTES],
+) -> (Said, usize)
     ensures { Heard part request characters.now result events.new }
 {
     match request {
         Request::Make(call) => make(part, call, characters, events),
-        Request::LookUp(night) => Verdict {
-            said: look(part, night),
-            writes: true,
-            added: 0,
-        },
+        Request::LookUp(night) => (look(part, night), 0),
     }
 }

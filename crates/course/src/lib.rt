@@ -12,16 +12,16 @@ mod words;
 
 use line::print_line;
 use longer::print_longer;
-use printing::Answer;
+use refusal::Refusal;
 pub use request::Request;
 use verdict::decide;
-pub use words::{Asked, asked_by};
+pub use words::asked_by;
 
-// How many bytes each buffer got.
-#[derive(Clone, Copy)]
+// How many bytes each buffer got; each is refused by itself, so these are two answers.
+#[derive(Clone, Copy, PartialEq, Eq)]
 pub struct Written {
-    pub longer: Answer,
-    pub line: Answer,
+    pub longer: Result<usize, Refusal>,
+    pub line: Result<usize, Refusal>,
 }
 
 pub const MOST_LINE: usize = line::MOST_BYTES;
@@ -36,14 +36,11 @@ pub fn play(
 ) -> Written
     ensures { Played request characters.now bytes.now longer.old line.old result longer.new line.new }
 {
+    // No heap: the longest call has room.
     let mut events = [0u8; calls::MOST_BYTES];
     let verdict = decide(request, characters, bytes, &mut events);
-    let said = verdict.said;
-    let added = verdict.added;
-    let longer_answer = print_longer(verdict.writes, bytes, &events[..added], longer);
-    let line_answer = print_line(said, line);
     Written {
-        longer: longer_answer,
-        line: line_answer,
+        longer: print_longer(verdict.added, bytes, &events, longer),
+        line: print_line(verdict.said, line),
     }
 }

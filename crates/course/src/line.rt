@@ -6,7 +6,7 @@ ghost use Rattle.course.specs.Course.{most_line};
 ghost use Rattle.course.specs.Promises.{said_line};
 
 use super::verdict::Said;
-use printing::Answer;
+use refusal::Refusal;
 use text::{put_number, put_refused, put_text};
 
 // `not yet written` and the line's end.
@@ -19,18 +19,18 @@ fn put_line(said: Said, out: &mut [u8]) -> usize
 {
     match said {
         Said::TooLong => put_text(b"too long\n", 0, out),
-        Said::Refused(number) => put_refused(number, out),
+        Said::Refused(refusal) => put_refused(u8::from(refusal), out),
         Said::Done => put_text(b"done\n", 0, out),
         Said::Figure(quarters) => put_number(quarters as u16, b'\n', 0, out),
         Said::NotYetWritten => put_text(b"not yet written\n", 0, out),
     }
 }
 
-pub(crate) fn print_line(said: Said, out: &mut [u8]) -> Answer
+pub(crate) fn print_line(said: Said, out: &mut [u8]) -> Result<usize, Refusal>
     ensures { Printed most_line (said_line said) out.old result out.new }
 {
     if out.len() < MOST_BYTES {
-        return Answer::ShortBuffer;
+        return Err(Refusal::ShortBuffer);
     }
-    Answer::Done(put_line(said, out))
+    Ok(put_line(said, out))
 }

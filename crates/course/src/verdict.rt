@@ -1,29 +1,27 @@
 // What a request comes to, by the record that leads to where it is made.
-ghost use Rattle.std.specs.Prelude.{◌≤◌, length};
-ghost use Rattle.course.specs.Promises.{call_room, Decided};
+ghost use Rattle.course.specs.Promises.{Decided};
 
 use super::call::ask;
 use super::request::Request;
+use refusal::Refusal;
 
 // The line that is said.
-#[derive(Clone, Copy)]
+#[derive(Clone, Copy, PartialEq, Eq)]
 pub enum Said {
     TooLong,
-    // The record's number, 10, or the call's.
-    Refused(u8),
+    // The record, more than 4,096 events in all, or the call.
+    Refused(Refusal),
     Done,
     // Of a night that is looked up.
     Figure(u8),
     NotYetWritten,
 }
 
-#[derive(Clone, Copy)]
+#[derive(Clone, Copy, PartialEq, Eq)]
 pub struct Verdict {
     pub said: Said,
-    // The record is written.
-    pub writes: bool,
-    // How many bytes the call's own events have.
-    pub added: usize,
+    // How many bytes the call's own events have; none where no record is written.
+    pub added: Option<usize>,
 }
 
 // The record is run once; the call's own events are left at the front of a lent buffer.
@@ -31,37 +29,33 @@ pub(crate) fn decide(
     request: Request,
     characters: &[u8],
     bytes: &[u8],
-    events: &mut [u8],
+    events: &mut [u8; calls::MOST_BYTES],
 ) -> Verdict
-    requires { call_room ≤ length events.old }
     ensures { Decided request characters.now bytes.now result events.new }
 {
     if record::MOST_BYTES < bytes.len() {
         return Verdict {
             said: Said::TooLong,
-            writes: false,
-            added: 0,
+            added: None,
         };
     }
-    let ran = run::run(bytes);
-    let answer = ran.answer;
-    let refused = answer.number();
-    if refused != 0 {
-        return Verdict {
-            said: Said::Refused(refused),
-            writes: false,
-            added: 0,
-        };
+    match run::run(bytes) {
+        Err(refusal) => Verdict {
+            said: Said::Refused(refusal),
+            added: None,
+        },
+        Ok(part) => {
+            let (said, added) = ask(part, request, characters, events);
+            if record::MOST_BYTES - bytes.len() < added {
+                return Verdict {
+                    said: Said::Refused(Refusal::Full),
+                    added: None,
+                };
+            }
+            Verdict {
+                said,
+                added: Some(added),
+            }
+        }
     }
-    let part = ran.controller;
-    let asked = ask(part, request, characters, events);
-    // More than 4,096 events in all.
-    if record::MOST_BYTES - bytes.len() < asked.added {
-        return Verdict {
-            said: Said::Refused(10),
-            writes: false,
-            added: 0,
-        };
-    }
-    asked
 }

@@ -2,6 +2,7 @@
 use Prim.Native.Char.{code}
 use Rattle.std.specs.Prelude.{ℕ, zero, suc, ◌+◌, ◌-◌, ◌*◌, ◌/◌, ◌%◌, ltb, cond, List, [], ◌∷◌, ◌++◌}
 use Rattle.text.specs.Text.{text_of, decimal_of}
+use Rattle.decimals.specs.declared.volts.Formula.{Formula}
 
 -- ---- the last digits of a number, so many, with zeros in front
 
@@ -22,8 +23,8 @@ abbrev pub distance_of : (a b : ℕ) → ℕ
 distance_of a b = cond (ltb a b) (b - a) (a - b)
 
 -- the exact value is divisor * VDD less k * span, in 64 * divisor parts of a volt
-abbrev pub ten_thousandths : (divisor vdd span k : ℕ) → ℕ
-ten_thousandths divisor vdd span k = nearest_of (10000 * distance_of (divisor * vdd) (k * span)) (64 * divisor)
+abbrev pub ten_thousandths : Formula → ℕ
+ten_thousandths formula = nearest_of (10000 * distance_of (formula.divisor * formula.vdd) (formula.k * formula.span)) (64 * formula.divisor)
 
 abbrev pub sign_of : (a b : ℕ) → List ℕ
 sign_of a b = cond (ltb a b) (text_of "-") []
@@ -31,8 +32,8 @@ sign_of a b = cond (ltb a b) (text_of "-") []
 unfoldable pub decimals_of : ℕ → List ℕ
 decimals_of n = (decimal_of (n / 10000) ++ text_of ".") ++ digits_in 10 4 n
 
-unfoldable pub printed_volts : (divisor vdd span k : ℕ) → List ℕ
-printed_volts divisor vdd span k = sign_of (divisor * vdd) (k * span) ++ decimals_of (ten_thousandths divisor vdd span k)
+unfoldable pub printed_volts : Formula → List ℕ
+printed_volts formula = sign_of (formula.divisor * formula.vdd) (formula.k * formula.span) ++ decimals_of (ten_thousandths formula)
 
 -- a sign, a digit, the point and four decimals: where the value is below ten volts
 abbrev pub most_volts : ℕ

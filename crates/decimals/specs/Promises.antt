@@ -1,10 +1,11 @@
 -- Helpers of contracts, not rules of the paper: what the volts ask.
-use Rattle.std.specs.Prelude.{ℕ, ◌≤◌}
+use Rattle.std.specs.Prelude.{◌≤◌}
+use Rattle.decimals.specs.declared.volts.Formula.{Formula}
 
--- numbers of a formula of the sheet
-pub record Formula (divisor vdd span k : ℕ) : Type 0 where
-  pub from_four : 4 ≤ divisor
-  pub to_five : divisor ≤ 5
-  pub vdd_fits : vdd ≤ 352
-  pub span_fits : span ≤ 512
-  pub to_four_steps : k ≤ 4
+-- a formula of the sheet
+pub record OfSheet (formula : Formula) : Type 0 where
+  pub from_four : 4 ≤ formula.divisor
+  pub to_five : formula.divisor ≤ 5
+  pub vdd_fits : formula.vdd ≤ 352
+  pub span_fits : formula.span ≤ 512
+  pub to_four_steps : formula.k ≤ 4

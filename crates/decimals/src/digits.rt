@@ -9,9 +9,10 @@ fn character(digit: u32) -> u8
     ensures { result ≡ digit_in digit }
 {
     if digit < 10 {
-        return b'0' + digit as u8;
+        b'0' + digit as u8
+    } else {
+        b'a' + (digit - 10) as u8
     }
-    b'a' + (digit - 10) as u8
 }
 
 // The last digits, the last one first.
@@ -20,10 +21,8 @@ pub fn put_digits(base: u32, count: usize, n: u32, place: usize, out: &mut [u8])
     ensures { Puts (digits_in base count n) place out.old result out.new }
 {
     let end = place + count;
-    let mut last = end;
     let mut rest = n;
-    while place < last {
-        last -= 1;
+    for last in (place..end).rev() {
         out[last] = character(rest % base);
         rest /= base;
     }

@@ -5,4 +5,4 @@ mod digits;
 mod volts;
 
 pub use digits::put_digits;
-pub use volts::{MOST_VOLTS, put_volts};
+pub use volts::{Formula, MOST_VOLTS, put_volts};

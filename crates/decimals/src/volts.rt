@@ -1,8 +1,8 @@
 // Volts with four decimals, from whole numbers: the exact value of a formula, to the nearest.
 ghost use Rattle.std.specs.Prelude.{◌+◌, ◌*◌, ◌≤◌, ◌<◌, length, ◌≡◌};
 ghost use Rattle.lent.specs.Put.{Puts};
-ghost use Rattle.decimals.specs.Decimals.{decimals_of, distance_of, nearest_of, sign_of, printed_volts};
-ghost use Rattle.decimals.specs.Promises.{Formula};
+ghost use Rattle.decimals.specs.Decimals.{decimals_of, nearest_of, sign_of, printed_volts};
+ghost use Rattle.decimals.specs.Promises.{OfSheet};
 
 use super::digits::put_digits;
 use text::{put_number, put_text};
@@ -10,13 +10,13 @@ use text::{put_number, put_text};
 // A sign, a digit, the point and four decimals: where the value is below ten volts.
 pub const MOST_VOLTS: usize = 7;
 
-fn distance(a: u32, b: u32) -> u32
-    ensures { result ≡ distance_of a b }
-{
-    if a < b {
-        return b - a;
-    }
-    a - b
+// Step k: divisor * VDD less k * span, in parts of a volt of which there are 64 * divisor.
+#[derive(Clone, Copy)]
+pub struct Formula {
+    pub divisor: u16,
+    pub vdd: u16,
+    pub span: u16,
+    pub k: u16,
 }
 
 // a / c, a half up.
@@ -28,14 +28,16 @@ fn nearest(a: u32, c: u32) -> u32
 }
 
 // A minus sign where more is taken off than there is.
+#[tactic(auto, using(crate::proofs::Signs::no_sign_puts))]
 fn put_sign(from: u32, less: u32, place: usize, out: &mut [u8]) -> usize
     requires { place + length (sign_of from less) ≤ length out.old }
     ensures { Puts (sign_of from less) place out.old result out.new }
 {
     if from < less {
-        return put_text(b"-", place, out);
+        put_text(b"-", place, out)
+    } else {
+        place
     }
-    place
 }
 
 // Ten-thousandths of a volt.
@@ -47,14 +49,13 @@ fn put_decimals(n: u32, place: usize, out: &mut [u8]) -> usize
     put_digits(10, 4, n, next, out)
 }
 
-// divisor * VDD less k * span, in parts of a volt of which there are 64 * divisor.
-pub fn put_volts(divisor: u16, vdd: u16, span: u16, k: u16, place: usize, out: &mut [u8]) -> usize
-    requires { Formula divisor vdd span k × (place + length (printed_volts divisor vdd span k) ≤ length out.old) }
-    ensures { Puts (printed_volts divisor vdd span k) place out.old result out.new }
+pub fn put_volts(formula: Formula, place: usize, out: &mut [u8]) -> usize
+    requires { OfSheet formula × (place + length (printed_volts formula) ≤ length out.old) }
+    ensures { Puts (printed_volts formula) place out.old result out.new }
 {
-    let from = divisor as u32 * vdd as u32;
-    let less = k as u32 * span as u32;
+    let from = formula.divisor as u32 * formula.vdd as u32;
+    let less = formula.k as u32 * formula.span as u32;
     let next = put_sign(from, less, place, out);
-    let n = nearest(10000 * distance(from, less), 64 * divisor as u32);
+    let n = nearest(10000 * from.abs_diff(less), 64 * formula.divisor as u32);
     put_decimals(n, next, out)
 }

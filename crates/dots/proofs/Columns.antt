@@ -6,8 +6,7 @@ use lib.ListN.{length, get_or, set, length-set}
 use lib.Seq.{get_or-set_same, get_or-set_other, ext_get_or}
 use mathlib.Core.List.{List}
 use mathlib.Core.Path.{◌≡◌, ap, sym, ◌∙◌}
-use native.Mathlib.Nat.{suc-mul, mul-zero, zero-lt-suc, mod-lt, div-add-mod', div-lt_iff_lt-mul, add_right_comm}
-use native.Mathlib.Numerals.{add-one}
+use native.Mathlib.Nat.{mul-zero, zero-lt-suc, mod-lt, div-add-mod', div-lt_iff_lt-mul}
 use native.Mathlib.Omega.{arith}
 use Rattle.lent.proofs.Lists.{length_parts, length_values, parts_at, values_at}
 use Rattle.lent.specs.Lists.{values, parts}
@@ -18,36 +17,31 @@ same_row s q d k e hd he h = sym (digits_div q hd) ∙ ap (λ (n : ℕ). n / s) 
 same_value : (s q d k e : ℕ) → d < s → e < s → q * s + d ≡ k * s + e → d ≡ e
 same_value s q d k e hd he h = sym (digits_mod q hd) ∙ ap (λ (n : ℕ). n % s) h ∙ digits_mod k he
 
--- ---- a buffer d that takes values in the column e: k of them are there, the next comes to the place at
-pub record Filling (f : ℕ → ℕ) (rows s e : ℕ) (d out : List ℕ) (k at : ℕ) : Type 0 where
-  pub counted : k ≤ rows
-  pub placed : at ≡ k * s + e
+-- ---- a buffer d that takes values in the column e: k of them are there
+pub record Filling (f : ℕ → ℕ) (s e : ℕ) (d out : List ℕ) (k : ℕ) : Type 0 where
   pub long : length out ≡ length d
   pub drawn : (q : ℕ) → q < k → get_or out (q * s + e) 0 ≡ f q
   pub waiting : (q : ℕ) → k ≤ q → get_or out (q * s + e) 0 ≡ get_or d (q * s + e) 0
   pub kept : (q j : ℕ) → j < s → (j ≡ e → ⊥) → get_or out (q * s + j) 0 ≡ get_or d (q * s + j) 0
 
-module _ (f : ℕ → ℕ) (rows s e : ℕ) (d out : List ℕ) (k at : ℕ) (t : Filling f rows s e d out k at) (h : k < rows) (he : e < s) (l : length d ≡ rows * s) where
-  pub column_room : at < length out
-  column_room = rw (t.placed, t.long, l) (digits_lt h he)
+module _ (f : ℕ → ℕ) (rows s e : ℕ) (d out : List ℕ) (k : ℕ) (t : Filling f s e d out k) (h : k < rows) (he : e < s) (l : length d ≡ rows * s) where
+  pub column_room : k * s + e < length out
+  column_room = rw (t.long, l) (digits_lt h he)
 
-  pub column_next : (v : ℕ) → v ≡ f k → Filling f rows s e d (set out at v) (k + 1) (at + s)
+  pub column_next : (v : ℕ) → v ≡ f k → Filling f s e d (set out (k * s + e) v) (k + 1)
   column_next v m =
       record {
-        counted = omega arith;
-        placed = rw (t.placed, add-one, suc-mul) (add_right_comm (k * s) e s);
         long = simp length-set t.long;
         drawn =
             below_more _ _
-            (λ q hq. get_or-set_other out at (q * s + e) v 0 (λ p. let w : q ≡ k = same_row s q e k e he he (p ∙ t.placed) in omega arith) ∙ t.drawn q hq)
-            (ap (λ (n : ℕ). get_or (set out at v) n 0) (sym t.placed) ∙ get_or-set_same out at v 0 column_room ∙ m);
-        waiting = λ q l. get_or-set_other out at (q * s + e) v 0 (λ p. let w : q ≡ k = same_row s q e k e he he (p ∙ t.placed) in omega arith) ∙ t.waiting q (omega arith);
-        kept = λ q j hj n. get_or-set_other out at (q * s + j) v 0 (λ p. n (same_value s q j k e hj he (p ∙ t.placed))) ∙ t.kept q j hj n;
+            (λ q hq. get_or-set_other out (k * s + e) (q * s + e) v 0 (λ p. let w : q ≡ k = same_row s q e k e he he p in omega arith) ∙ t.drawn q hq)
+            (get_or-set_same out (k * s + e) v 0 column_room ∙ m);
+        waiting = λ q l. get_or-set_other out (k * s + e) (q * s + e) v 0 (λ p. let w : q ≡ k = same_row s q e k e he he p in omega arith) ∙ t.waiting q (omega arith);
+        kept = λ q j hj n. get_or-set_other out (k * s + e) (q * s + j) v 0 (λ p. n (same_value s q j k e hj he p)) ∙ t.kept q j hj n;
       }
 
 -- ---- a buffer d that takes columns: k of them are there
 pub record Columns (f : ℕ → ℕ → ℕ) (rows s : ℕ) (d out : List ℕ) (k : ℕ) : Type 0 where
-  pub counted : k ≤ s
   pub long : length out ≡ length d
   pub drawn : (j : ℕ) → j < k → (q : ℕ) → q < rows → get_or out (q * s + j) 0 ≡ f j q
 

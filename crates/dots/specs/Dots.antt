@@ -1,5 +1,5 @@
 -- "The picture": the dots of a digit in a row, one byte.
-use Rattle.std.specs.Prelude.{ℕ, ◌+◌, ◌*◌, ◌/◌, ◌%◌, ◌-◌, ltb, eqb, get_or, Bool, true, false, cond, ◌&&◌, ◌||◌, List}
+use Rattle.std.specs.Prelude.{ℕ, ◌+◌, ◌*◌, ◌/◌, ◌%◌, ◌-◌, ltb, eqb, get_or, Bool, true, false, cond, ◌&&◌, ◌||◌, List, ◌≡◌}
 use Rattle.controller.specs.declared.Controller.{Controller}
 use Rattle.controller.specs.declared.registers.Registers.{Registers}
 use Rattle.counters.specs.Address.{address_of}
@@ -41,6 +41,14 @@ five_of set pattern = cond set 0x1F (pattern % 0x20)
 unfoldable pub is_dark : Phase → Bool
 is_dark Plain = false
 is_dark Dark = true
+
+abbrev pub phase_of : (dark : Bool) → Phase
+phase_of true = Dark
+phase_of false = Plain
+
+-- what `From` promises
+abbrev pub is_phase_of : Bool → Phase → Type 0
+is_phase_of dark phase = phase ≡ phase_of dark
 
 -- the byte of a cell in a row; display off: all zeros
 unfoldable pub cell_dots : Controller → (rom : List ℕ) → Phase → (row : ℕ) → Cell → ℕ

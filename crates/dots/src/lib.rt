@@ -3,10 +3,14 @@
 
 mod column;
 mod digit;
+mod drawable;
+mod extent;
 mod line;
 mod mark;
 mod phase;
+mod place;
 
+pub use drawable::Drawable;
 pub use line::draw_line;
 pub use phase::Phase;
 

@@ -1,24 +1,14 @@
--- "Refusal numbers": the number and value for each answer to a drawing, when it is given, and what a call leaves.
-use Rattle.std.specs.Prelude.{ℕ, ltb, eqb, length, cond, ◌||◌, not, List, [], ◌∷◌, ◌≡◌}
+-- "Refusal numbers": when a drawing is refused, and what a call leaves.
+use Rattle.std.specs.Prelude.{ℕ, Result, ltb, eqb, length, cond, ◌||◌, not, List, [], ◌∷◌, ◌≡◌}
+use Rattle.std.specs.Result.{result_unwrap_or}
 use Rattle.condition.specs.First.{Rule, ◌when◌, first_of}
 use Rattle.controller.specs.declared.registers.Mode.{Mode}
 use Rattle.lent.specs.Buffer.{unless_refused}
+use Rattle.refusal.specs.Refusals.{number_of}
+use Rattle.refusal.specs.declared.Refusal.{Refusal}
 use Rattle.size.specs.Size.{has_digits, bytes_of}
 use Rattle.drawing.specs.Drawing.{drawing_of}
-use Rattle.drawing.specs.declared.Answer.{Answer}
-use Rattle.drawing.specs.declared.Answer.TheVariants.{Done, BadDigits, ShortBuffer}
 use Rattle.drawing.specs.declared.form.Form.{Form}
-
-abbrev pub number_of : Answer → ℕ
-number_of (Done n) = 0
-number_of BadDigits = 4
-number_of ShortBuffer = 6
-
--- how many bytes were written
-abbrev pub value_of : Answer → ℕ
-value_of (Done n) = n
-value_of BadDigits = 0
-value_of ShortBuffer = 0
 
 -- 4: digits 0, above 80 (one line), above 40 (two); 6: a lent buffer too short, that of the dots or that of the drawing
 unfoldable pub refusals : Form → Mode → (digits : ℕ) (dots out : List ℕ) → List Rule
@@ -34,7 +24,7 @@ answer_for form mode digits dots out = first_of (refusals form mode digits dots 
 unfoldable pub value_for : Form → Mode → (digits : ℕ) (dots out : List ℕ) → ℕ
 value_for form mode digits dots out = cond (eqb (answer_for form mode digits dots out) 0) (length (drawing_of form mode digits dots)) 0
 
-pub record Drawing (form : Form) (mode : Mode) (digits : ℕ) (dots out : List ℕ) (answer : Answer) (left : List ℕ) : Type 0 where
+pub record Drawing (form : Form) (mode : Mode) (digits : ℕ) (dots out : List ℕ) (answer : Result ℕ Refusal) (left : List ℕ) : Type 0 where
   pub number : number_of answer ≡ answer_for form mode digits dots out
-  pub value : value_of answer ≡ value_for form mode digits dots out
+  pub value : result_unwrap_or answer 0 ≡ value_for form mode digits dots out
   pub buffer : left ≡ unless_refused (answer_for form mode digits dots out) (drawing_of form mode digits dots) out

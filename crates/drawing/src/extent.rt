@@ -4,6 +4,7 @@ ghost use Rattle.size.specs.Size.{rows_of};
 ghost use Rattle.drawing.specs.Drawing.{height_of, head_of, most_drawn};
 ghost use Rattle.drawing.specs.Promises.{row_size, gap_size, lines_size, size_of};
 
+use super::digits::Digits;
 use super::form::Form;
 use super::row::width;
 use controller::registers::Mode;
@@ -34,20 +35,18 @@ fn head_size(form: Form, width: u16, height: u16) -> usize
 }
 
 #[tactic(auto, unfolding(crate::specs::Promises::row_size))]
-pub(crate) fn row_size(form: Form, digits: usize) -> usize
-    requires { (1 ≤ digits) × (digits ≤ 80) }
-    ensures { (result ≡ row_size form digits) × (result ≤ 480) }
+pub(crate) fn row_size(form: Form, digits: Digits) -> usize
+    ensures { (result ≡ row_size form digits.count) × (result ≤ 480) }
 {
     match form {
-        Form::Text => 6 * digits,
-        Form::Image => (width(digits) + 7) / 8,
+        Form::Text => 6 * digits.count,
+        Form::Image => width(digits).div_ceil(8),
     }
 }
 
 #[tactic(auto, unfolding(crate::specs::Promises::gap_size))]
-pub(crate) fn gap_size(form: Form, digits: usize) -> usize
-    requires { (1 ≤ digits) × (digits ≤ 80) }
-    ensures { (result ≡ gap_size form digits) × (result ≤ 480) }
+pub(crate) fn gap_size(form: Form, digits: Digits) -> usize
+    ensures { (result ≡ gap_size form digits.count) × (result ≤ 480) }
 {
     match form {
         Form::Text => 1,
@@ -56,17 +55,15 @@ pub(crate) fn gap_size(form: Form, digits: usize) -> usize
 }
 
 // All rows of one line of the picture.
-fn line_size(form: Form, mode: Mode, digits: usize) -> usize
-    requires { (1 ≤ digits) × (digits ≤ 80) }
-    ensures { (result ≡ rows_of mode * row_size form digits) × (result ≤ most_drawn) }
+fn line_size(form: Form, mode: Mode, digits: Digits) -> usize
+    ensures { (result ≡ rows_of mode * row_size form digits.count) × (result ≤ most_drawn) }
 {
     row_count(mode) * row_size(form, digits)
 }
 
 #[tactic(auto, unfolding(crate::specs::Promises::lines_size))]
-fn lines_size(form: Form, mode: Mode, digits: usize) -> usize
-    requires { (1 ≤ digits) × (digits ≤ 80) }
-    ensures { (result ≡ lines_size mode.lines (gap_size form digits) (rows_of mode * row_size form digits)) × (result ≤ 3 * most_drawn) }
+fn lines_size(form: Form, mode: Mode, digits: Digits) -> usize
+    ensures { (result ≡ lines_size mode.lines (gap_size form digits.count) (rows_of mode * row_size form digits.count)) × (result ≤ 3 * most_drawn) }
 {
     let line = line_size(form, mode, digits);
     let lines = mode.lines;
@@ -77,9 +74,8 @@ fn lines_size(form: Form, mode: Mode, digits: usize) -> usize
 }
 
 #[tactic(auto, unfolding(crate::specs::Promises::size_of))]
-pub(crate) fn byte_size(form: Form, mode: Mode, digits: usize) -> usize
-    requires { (1 ≤ digits) × (digits ≤ 80) }
-    ensures { result ≡ size_of form mode digits }
+pub(crate) fn byte_size(form: Form, mode: Mode, digits: Digits) -> usize
+    ensures { result ≡ size_of form mode digits.count }
 {
     head_size(form, width(digits) as u16, height(mode) as u16) + lines_size(form, mode, digits)
 }

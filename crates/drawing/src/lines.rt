@@ -5,6 +5,7 @@ ghost use Rattle.size.specs.Size.{rows_of, bytes_of};
 ghost use Rattle.drawing.specs.Drawing.{gap_in, between, line_in, drawing_of};
 ghost use Rattle.drawing.specs.Promises.{row_size, gap_size, lines_size, size_of};
 
+use super::digits::Digits;
 use super::extent::{gap_size, height, row_size};
 use super::form::Form;
 use super::head::put_head;
@@ -14,28 +15,26 @@ use counters::LineMode;
 use size::row_count;
 
 #[tactic(auto, using(lent::proofs::Lists::length_lent, lent::proofs::Lists::taken_whole, crate::proofs::Lengths::rest_lent), unfolding(crate::specs::Drawing::line_in))]
-fn draw_line(form: Form, rows: usize, digits: usize, dots: &[u8], line: usize, out: &mut [u8])
-    requires { (1 ≤ digits) × (digits ≤ 80) × (rows ≤ 11) × (line ≤ 1) × (line * (rows * digits) + rows * digits ≤ length dots.now) × (length out.old ≡ rows * row_size form digits) }
-    ensures { out.new ≡ line_in form rows digits dots.now line }
+fn draw_line(form: Form, rows: usize, digits: Digits, dots: &[u8], line: usize, out: &mut [u8])
+    requires { (rows ≤ 11) × (line ≤ 1) × (line * (rows * digits.count) + rows * digits.count ≤ length dots.now) × (length out.old ≡ rows * row_size form digits.count) }
+    ensures { out.new ≡ line_in form rows digits.count dots.now line }
 {
     let size = row_size(form, digits);
-    let mut row = 0;
-    let mut from = line * (rows * digits);
+    let mut from = line * (rows * digits.count);
     let mut at = 0;
-    while row < rows {
+    for row in 0..rows {
         let end = at + size;
         draw_row(form, digits, &dots[from..], &mut out[at..end]);
-        from += digits;
+        from += digits.count;
         at = end;
-        row += 1;
     }
 }
 
 // Two lines, and what stands between them.
 #[tactic(auto, using(lent::proofs::Returned::three_put, crate::proofs::Lengths::length_gap, crate::proofs::Lengths::length_line, crate::proofs::Lengths::rest_lent), unfolding(crate::specs::Drawing::between))]
-fn draw_two(form: Form, rows: usize, digits: usize, dots: &[u8], out: &mut [u8])
-    requires { (1 ≤ digits) × (digits ≤ 80) × (rows ≤ 11) × (2 * (rows * digits) ≤ length dots.now) × (length out.old ≡ rows * row_size form digits + (gap_size form digits + rows * row_size form digits)) }
-    ensures { out.new ≡ between Two (gap_in form digits) (line_in form rows digits dots.now) }
+fn draw_two(form: Form, rows: usize, digits: Digits, dots: &[u8], out: &mut [u8])
+    requires { (rows ≤ 11) × (2 * (rows * digits.count) ≤ length dots.now) × (length out.old ≡ rows * row_size form digits.count + (gap_size form digits.count + rows * row_size form digits.count)) }
+    ensures { out.new ≡ between Two (gap_in form digits.count) (line_in form rows digits.count dots.now) }
 {
     let end = rows * row_size(form, digits);
     let next = end + gap_size(form, digits);
@@ -45,9 +44,9 @@ fn draw_two(form: Form, rows: usize, digits: usize, dots: &[u8], out: &mut [u8])
 }
 
 #[tactic(auto, unfolding(size::specs::Size::lines_of, crate::specs::Promises::lines_size, crate::specs::Drawing::between))]
-fn draw_lines(form: Form, mode: Mode, digits: usize, dots: &[u8], out: &mut [u8])
-    requires { (1 ≤ digits) × (digits ≤ 80) × (bytes_of mode digits ≤ length dots.now) × (length out.old ≡ lines_size mode.lines (gap_size form digits) (rows_of mode * row_size form digits)) }
-    ensures { out.new ≡ between mode.lines (gap_in form digits) (line_in form (rows_of mode) digits dots.now) }
+fn draw_lines(form: Form, mode: Mode, digits: Digits, dots: &[u8], out: &mut [u8])
+    requires { (bytes_of mode digits.count ≤ length dots.now) × (length out.old ≡ lines_size mode.lines (gap_size form digits.count) (rows_of mode * row_size form digits.count)) }
+    ensures { out.new ≡ between mode.lines (gap_in form digits.count) (line_in form (rows_of mode) digits.count dots.now) }
 {
     let rows = row_count(mode);
     let lines = mode.lines;
@@ -58,9 +57,9 @@ fn draw_lines(form: Form, mode: Mode, digits: usize, dots: &[u8], out: &mut [u8]
 }
 
 #[tactic(auto, using(lent::proofs::Returned::behind_put, crate::proofs::Lengths::rest_lent), unfolding(crate::specs::Promises::size_of, crate::specs::Drawing::drawing_of))]
-pub(crate) fn draw_whole(form: Form, mode: Mode, digits: usize, dots: &[u8], out: &mut [u8])
-    requires { (1 ≤ digits) × (digits ≤ 80) × (bytes_of mode digits ≤ length dots.now) × (length out.old ≡ size_of form mode digits) }
-    ensures { out.new ≡ drawing_of form mode digits dots.now }
+pub(crate) fn draw_whole(form: Form, mode: Mode, digits: Digits, dots: &[u8], out: &mut [u8])
+    requires { (bytes_of mode digits.count ≤ length dots.now) × (length out.old ≡ size_of form mode digits.count) }
+    ensures { out.new ≡ drawing_of form mode digits.count dots.now }
 {
     let at = put_head(form, width(digits) as u16, height(mode) as u16, out);
     draw_lines(form, mode, digits, dots, &mut out[at..]);

@@ -13,6 +13,11 @@ upper n = n / 16 % 16
 abbrev pub lower : ℕ → ℕ
 lower n = n % 16
 
+-- eight lines if 1, four if 0
+abbrev pub line_count : Bool → LineCount
+line_count true = Eight
+line_count false = Four
+
 -- ---- the half that waits
 -- a half waits only on four lines and is 0 to 15, for a read always 0
 unfoldable pub is_four : LineCount → Bool

@@ -2,32 +2,34 @@
 #![tactic(auto)]
 
 ghost use Rattle.std.specs.Prelude.{◌≤◌, ◌≡◌};
-ghost use Rattle.halves.specs.Halves.{is_four, most_half, half_fits, held_by, is_first, disagrees as disagrees_with, upper_of, completed as completed_by, answered as answered_on};
+ghost use Rattle.halves.specs.Halves.{line_count, most_half, half_fits, held_by, is_first, disagrees as disagrees_with, upper_of, completed as completed_by, answered as answered_on};
 
 use event::Kind;
 
 // How many lines of the bus are used.
-#[derive(Clone, Copy)]
+#[derive(Clone, Copy, PartialEq, Eq)]
 pub enum LineCount {
     Eight,
     Four,
 }
 
 // The upper four lines of a write wait as a number below 16; the half of a read is always 0.
-#[derive(Clone, Copy)]
+// No Option: its six methods are the paper's words for it, and an Option has none of them.
+#[derive(Clone, Copy, PartialEq, Eq)]
 pub enum Half {
     Nothing,
     Waiting(Kind, u8),
 }
 
-impl LineCount {
-    #[tactic(auto, unfolding(crate::specs::Halves::is_four))]
-    fn is_four(self) -> bool
-        ensures { result ≡ is_four self }
-    {
-        match self {
-            LineCount::Eight => false,
-            LineCount::Four => true,
+// Eight lines if the bit is 1, four if it is 0.
+impl From<bool> for LineCount {
+    ghost from_gives = { λ eight bus. bus ≡ line_count eight };
+
+    fn from(eight: bool) -> LineCount {
+        if eight {
+            LineCount::Eight
+        } else {
+            LineCount::Four
         }
     }
 }
@@ -41,13 +43,13 @@ fn most_half(kind: Kind) -> u8
 
 impl Half {
     // Whether it can wait on so many lines.
-    #[tactic(auto, using(condition::proofs::Tests::met), unfolding(crate::specs::Halves::half_fits))]
+    #[tactic(auto, using(crate::proofs::Waiting::four_by_eq), unfolding(crate::specs::Halves::half_fits))]
     pub fn fits(self, bus: LineCount) -> bool
         ensures { result ≡ half_fits bus self }
     {
         match self {
             Half::Nothing => true,
-            Half::Waiting(kind, upper) => bus.is_four() & (upper <= most_half(kind)),
+            Half::Waiting(kind, upper) => (bus == LineCount::Four) & (upper <= most_half(kind)),
         }
     }
 
@@ -63,24 +65,24 @@ impl Half {
     }
 
     // Whether a transfer is the first half of a byte.
-    #[tactic(auto, using(condition::proofs::Tests::met), unfolding(crate::specs::Halves::is_first))]
+    #[tactic(auto, using(crate::proofs::Waiting::four_by_eq), unfolding(crate::specs::Halves::is_first))]
     pub fn is_first(self, bus: LineCount) -> bool
         ensures { result ≡ is_first bus self }
     {
         match self {
-            Half::Nothing => bus.is_four(),
+            Half::Nothing => bus == LineCount::Four,
             Half::Waiting(_, _) => false,
         }
     }
 
     // Whether a transfer of this kind disagrees with the half that waits.
-    #[tactic(auto, using(condition::proofs::Tests::met), unfolding(crate::specs::Halves::disagrees))]
+    #[tactic(auto, using(crate::proofs::Waiting::four_by_eq), unfolding(crate::specs::Halves::disagrees))]
     pub fn disagrees(self, bus: LineCount, kind: Kind) -> bool
         ensures { result ≡ disagrees_with bus self kind }
     {
         match self {
             Half::Nothing => false,
-            Half::Waiting(first, _) => bus.is_four() & !kind.alike(first),
+            Half::Waiting(first, _) => (bus == LineCount::Four) & !kind.alike(first),
         }
     }
 
@@ -94,27 +96,25 @@ impl Half {
     }
 
     // The byte written; on four lines its upper half is the one that waits.
-    #[tactic(auto, using(crate::proofs::Waiting::completed_by_lines))]
+    #[tactic(auto, unfolding(crate::specs::Halves::completed))]
     pub fn completed(self, bus: LineCount, byte: u8) -> u8
         requires { upper_of self ≤ 15 }
         ensures { result ≡ completed_by bus self byte }
     {
-        if bus.is_four() {
-            self.upper() * 16 + byte / 16
-        } else {
-            byte
+        match bus {
+            LineCount::Eight => byte,
+            LineCount::Four => self.upper() * 16 + byte / 16,
         }
     }
 }
 
 // What a read answers with the transfer that completes it.
-#[tactic(auto, using(crate::proofs::Waiting::answered_by_lines))]
+#[tactic(auto, unfolding(crate::specs::Halves::answered))]
 pub fn answered(bus: LineCount, value: u8) -> u8
     ensures { result ≡ answered_on bus value }
 {
-    if bus.is_four() {
-        value % 16 * 16
-    } else {
-        value
+    match bus {
+        LineCount::Eight => value,
+        LineCount::Four => value % 16 * 16,
     }
 }

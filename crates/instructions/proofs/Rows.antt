@@ -1,6 +1,7 @@
 -- What the nine rows have in common: no half is left, only Clear changes a memory, and only a cursor move passes an end.
 use Prim.Native.Nat.{ℕ, ◌<◌, ◌≤◌}
 use borrow.Author.Tests.{lt-leb}
+use denote.Enum.Bare.{sameb}
 use lib.Dec.{T, leb, eqb, eqb→eq, le→leb, lit≤}
 use mathlib.Core.Bool.{Bool, true, false, cond, not, ◌&&◌, ◌||◌, beq, and-false}
 use mathlib.Core.Path.{◌≡◌, ◌∙◌, ap, refl, subst⁻¹, sym}
@@ -11,13 +12,24 @@ use Rattle.controller.specs.Part.{awaiting, passes_end}
 use Rattle.controller.specs.Result.{Result}
 use Rattle.controller.specs.declared.registers.Mode.{Mode}
 use Rattle.controller.specs.declared.registers.Registers.{Registers}
+use Rattle.counters.specs.contracts.LineMode.{the_type}
+use Rattle.counters.specs.declared.LineMode.{LineMode}
+use Rattle.counters.specs.declared.LineMode.TheVariants.{One, Two}
 use Rattle.halves.specs.declared.Half.{Half}
 use Rattle.halves.specs.declared.LineCount.{LineCount}
-use Rattle.instructions.specs.Instructions.{bit, decode, moved, moves_past, rearranged, row_of, obey}
+use Rattle.instructions.specs.Instructions.{bit, decode, moved, moves_past, unless_changed, rearranged, row_of, obey}
 use Rattle.instructions.specs.Theorems.{LeavesNoHalf, AnswersDoneOrThree, OnlyClearChanges, is_cursor_move, OnlyCursorMovesPass, TicksFit}
 use Rattle.instructions.specs.declared.instruction.Instruction.{Instruction}
 use Rattle.instructions.specs.declared.instruction.Instruction.TheVariants.{Nothing, Clear, Home, EntryMode, OnOff, Move, FunctionSet, SetCharacter, SetDisplay}
 use Rattle.instructions.proofs.Decoded.{of_decoded}
+
+-- ---- whether N changes, as the code tests it
+pub unless_by_eq : {A : Type 0} (before after : LineMode) (old new : A) → unless_changed before after old new ≡ cond (sameb the_type before after) old new
+unfolding unless_changed
+unless_by_eq One One old new = refl
+unless_by_eq One Two old new = refl
+unless_by_eq Two One old new = refl
+unless_by_eq Two Two old new = refl
 
 -- ---- one obeyed instruction is done, or refused with 3
 pub leaves_no_half : LeavesNoHalf

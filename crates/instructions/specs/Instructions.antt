@@ -4,29 +4,18 @@ use Rattle.controller.specs.Memory.{Change}
 use Rattle.controller.specs.Part.{placed, arranged, entered, lit, counter_stepped, passes_end, shift_moved}
 use Rattle.controller.specs.Result.{Result, done, forgotten}
 use Rattle.controller.specs.declared.registers.Registers.{Registers}
-use Rattle.counters.specs.Address.{display, character, has_display}
+use Rattle.counters.specs.Address.{line_mode, display, character, has_display}
 use Rattle.counters.specs.Shift.{shift}
 use Rattle.counters.specs.declared.LineMode.{LineMode}
 use Rattle.counters.specs.declared.LineMode.TheVariants.{One, Two}
 use Rattle.counters.specs.declared.counter.Counter.TheVariants.{Display, Character}
-use Rattle.halves.specs.declared.LineCount.{LineCount}
-use Rattle.halves.specs.declared.LineCount.TheVariants.{Eight, Four}
+use Rattle.halves.specs.Halves.{line_count}
 use Rattle.instructions.specs.declared.instruction.Instruction.{Instruction}
 use Rattle.instructions.specs.declared.instruction.Instruction.TheVariants.{Nothing, Clear, Home, EntryMode, OnOff, Move, FunctionSet, SetCharacter, SetDisplay}
 
 -- ---- byte: the highest bit that is set decides
 unfoldable pub bit : ℕ → ℕ → Bool
 bit k b = eqb (b / 2 ^ k % 2) 1
-
--- eight lines if 1, four if 0
-abbrev pub line_count : Bool → LineCount
-line_count true = Eight
-line_count false = Four
-
--- N = 0 is one line
-abbrev pub line_mode : Bool → LineMode
-line_mode false = One
-line_mode true = Two
 
 -- which instruction a byte written with RS = 0 is
 unfoldable pub decode : ℕ → Instruction

@@ -1,3 +1,2 @@
 pub mod Instructions
-pub mod Obeyed
 pub mod Theorems

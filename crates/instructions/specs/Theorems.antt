@@ -5,9 +5,10 @@ use Rattle.controller.specs.Part.{passes_end, longest}
 use Rattle.controller.specs.Result.{result_of}
 use Rattle.controller.specs.declared.effect.Effect.{Effect}
 use Rattle.controller.specs.declared.registers.Registers.{Registers}
-use Rattle.counters.specs.Address.{character, display}
+use Rattle.counters.specs.Address.{line_mode, character, display}
+use Rattle.halves.specs.Halves.{line_count}
 use Rattle.halves.specs.declared.Half.{Half}
-use Rattle.instructions.specs.Instructions.{bit, line_count, line_mode, decode, row_of, obey}
+use Rattle.instructions.specs.Instructions.{bit, decode, row_of, obey}
 use Rattle.instructions.specs.declared.instruction.Instruction.{Instruction}
 use Rattle.instructions.specs.declared.instruction.Instruction.TheVariants.{Nothing, Clear, Home, EntryMode, OnOff, Move, FunctionSet, SetCharacter, SetDisplay}
 

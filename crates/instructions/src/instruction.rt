@@ -1,13 +1,13 @@
 // The nine instructions: in a byte written with RS = 0 the highest bit that is set decides.
 ghost use Rattle.std.specs.Prelude.{◌≡◌};
-ghost use Rattle.instructions.specs.Instructions.{line_count, line_mode, decode as decode_of};
+ghost use Rattle.instructions.specs.Instructions.{decode as decode_of};
 
 use controller::registers::{Entry, Lights, Mode};
 use counters::LineMode;
 use counters::address::{CharacterAddress, DisplayAddress};
 use halves::LineCount;
 
-#[derive(Clone, Copy)]
+#[derive(Clone, Copy, PartialEq, Eq)]
 pub enum Instruction {
     Nothing,
     Clear,
@@ -20,28 +20,13 @@ pub enum Instruction {
     SetDisplay(DisplayAddress),
 }
 
-fn line_count(eight: bool) -> LineCount
-    ensures { result ≡ line_count eight }
-{
-    if eight {
-        LineCount::Eight
-    } else {
-        LineCount::Four
-    }
-}
-
-fn line_mode(two: bool) -> LineMode
-    ensures { result ≡ line_mode two }
-{
-    if two { LineMode::Two } else { LineMode::One }
-}
-
+#[tactic(auto, unfolding(crate::specs::Instructions::decode, crate::specs::Instructions::bit))]
 pub fn decode(byte: u8) -> Instruction
     ensures { result ≡ decode_of byte }
 {
     match byte {
-        0x00..=0x00 => Instruction::Nothing,
-        0x01..=0x01 => Instruction::Clear,
+        0x00 => Instruction::Nothing,
+        0x01 => Instruction::Clear,
         0x02..=0x03 => Instruction::Home,
         0x04..=0x07 => Instruction::EntryMode(Entry {
             up: byte / 2 % 2 == 1,
@@ -57,9 +42,9 @@ pub fn decode(byte: u8) -> Instruction
             right: byte / 4 % 2 == 1,
         },
         0x20..=0x3f => Instruction::FunctionSet(
-            line_count(byte / 16 % 2 == 1),
+            LineCount::from(byte / 16 % 2 == 1),
             Mode {
-                lines: line_mode(byte / 8 % 2 == 1),
+                lines: LineMode::from(byte / 8 % 2 == 1),
                 tall: byte / 4 % 2 == 1,
             },
         ),

@@ -1,5 +1,4 @@
 pub mod Left
-pub mod Stored
 pub mod Placed
 pub mod Returned
 pub mod Lists

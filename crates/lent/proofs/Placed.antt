@@ -1,7 +1,7 @@
 -- Laws of bytes put at a place of a buffer.
 use Prim.Native.Nat.{ℕ, suc, ◌+◌, ◌≤◌, ◌<◌}
-use lib.ListN.{length, take, drop, set, get_or, length-append, length-take, length-drop, take-append-drop}
-use lib.Seq.{take-append_seam, drop-append-add, drop_at, drop-drop, take-set-le, set_split, length-take-le, take-suc, take_all}
+use lib.ListN.{length, take, drop, set, length-append, length-take, length-drop, take-append-drop}
+use lib.Seq.{take-append_seam, drop-append-add, drop_at, drop-drop, take-set-le, set_split, length-take-le}
 use mathlib.Core.List.{List, [], ◌∷◌, ◌++◌, append_assoc}
 use mathlib.Core.Path.{◌≡◌, refl, sym, ap, ◌∙◌}
 use native.Mathlib.Numerals.{add-one}
@@ -77,18 +77,3 @@ put_before place first byte out h =
     let one : place + length (first ++ (byte ∷ [])) ≡ suc (place + length first) = simp length-append (omega arith) in
     let before : place ≤ place + length first = omega arith in
     rw (rest, one, take-set-le, append_assoc)
-
--- ---- a text, byte after byte
-
-pub put_turn : (text : List ℕ) (place : ℕ) (out now : List ℕ) (i : ℕ) → place + length text ≤ length out → i < length text → now ≡ put_at place (take i text) out → set now (place + i) (get_or text i 0) ≡ put_at place (take (i + 1) text) out
-put_turn text place out now i room h e =
-    let size : length (take i text) ≡ i = length-take-le i text (omega arith) in
-    let long : length now ≡ length out = ap length e ∙ put_length place (take i text) out (omega arith) in
-    put_one (place + i) (get_or text i 0) now (omega arith)
-    ∙ ap (put_at (place + i) (get_or text i 0 ∷ [])) e
-    ∙ ap (λ (n : ℕ). put_at (place + n) (get_or text i 0 ∷ []) (put_at place (take i text) out)) (sym size)
-    ∙ put_more place (take i text) (get_or text i 0 ∷ []) out (omega arith)
-    ∙ ap (λ (l : List ℕ). put_at place l out) (rw (add-one, take-suc text i 0))
-
-pub put_all : (text : List ℕ) (place : ℕ) (out now : List ℕ) (i : ℕ) → i ≤ length text → length text ≤ i → now ≡ put_at place (take i text) out → Puts text place out (place + i) now
-put_all text place out now i h k e = record { next = omega arith; buffer = e ∙ ap (λ (l : List ℕ). put_at place l out) (take_all i text k) }

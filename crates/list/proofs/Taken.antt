@@ -20,8 +20,8 @@ use Rattle.record.proofs.FrontEvents.{front_fits, count_events, bad_events_by_fr
 use Rattle.record.proofs.Sound.{passed}
 use Rattle.record.specs.Record.{most_events, front_events, events_in, bad_events}
 use Rattle.run.specs.Promises.{Runnable}
-use Rattle.run.specs.Run.{answer_bytes}
-use Rattle.list.specs.List.{room_for, answer_for, left_for, buffer_for}
+use Rattle.run.specs.Run.{RunsEvents, answer_bytes}
+use Rattle.list.specs.List.{room_for, answer_for, left_for, buffer_for, Listing}
 
 module _ (r : Registers) (events : List ℕ) (room : ℕ) where
   -- the controller in range, room for the answers, and events that are all there is
@@ -60,3 +60,11 @@ module _ (c : Controller) (events : List ℕ) where
   unfolding buffer_for
   done_answers answers done =
       sym (done_writes _ _ answers done) ∙ ap (λ (l : List Event). over (answer_bytes (said_by l c)) answers) (list_taken c.registers events (length answers) done).3
+
+pub list_ran : (c : Controller) (events answers : List ℕ) → 0 ≡ answer_for c.registers events (length answers) → (left : Controller) (out : List ℕ) → RunsEvents c events answers left out → Listing c events answers 0 left out
+list_ran c events answers done left out ran =
+    record {
+      number = done;
+      controller = ran.controller ∙ sym (done_leaves c events (length answers) (sym done));
+      buffer = ran.buffer ∙ sym (done_answers c events answers (sym done));
+    }

@@ -1,5 +1,5 @@
 -- What is proved of lists beside the promises.
-use Rattle.std.specs.Prelude.{ℕ, ◌*◌, ◌≤◌, T, length, List, [], ◌∷◌, ◌++◌, ◌≢◌, ◌≡◌}
+use Rattle.std.specs.Prelude.{⊤, ℕ, ◌*◌, ◌≤◌, T, length, List, [], ◌∷◌, ◌++◌, Result, ◌≢◌, ◌≡◌}
 use Rattle.bus.specs.Events.{after_events, said_by}
 use Rattle.condition.specs.First.{Exactly}
 use Rattle.controller.specs.Answers.{Said}
@@ -10,11 +10,10 @@ use Rattle.event.specs.declared.Event.{Event}
 use Rattle.lent.specs.Buffer.{over}
 use Rattle.record.specs.Reading.{AllFit}
 use Rattle.record.specs.Record.{most_events, body_of}
+use Rattle.refusal.specs.Refusals.{number_of}
+use Rattle.refusal.specs.declared.Refusal.{Refusal}
 use Rattle.run.specs.Run.{answer_bytes}
-use Rattle.list.specs.Answers.{number_of}
 use Rattle.list.specs.List.{room_for, refusals, answer_for, left_for, buffer_for, Listing}
-use Rattle.list.specs.declared.Outcome.{Outcome}
-use Rattle.list.specs.declared.answer.Answer.{Answer}
 
 -- ---- "Given exactly when"
 
@@ -66,14 +65,9 @@ NoEventNotInRange = (c : Controller) (events : List Event) → T (in_range c.reg
 -- ---- any two outcomes that a promise allows are equal
 
 abbrev pub NumberSettled : Type 0
-NumberSettled = (answer : Answer) (r s : ℕ) → r ≡ number_of answer → s ≡ number_of answer → r ≡ s
+NumberSettled = (answer : Result ⊤ Refusal) (r s : ℕ) → r ≡ number_of answer → s ≡ number_of answer → r ≡ s
 
 abbrev pub RunListSettled : Type 0
 RunListSettled =
-    (c : Controller) (events answers : List ℕ) (r s : Answer) (left left' : Controller) (out out' : List ℕ)
+    (c : Controller) (events answers : List ℕ) (r s : Result ⊤ Refusal) (left left' : Controller) (out out' : List ℕ)
     → Listing c events answers (number_of r) left out → Listing c events answers (number_of s) left' out' → (r ≡ s) × (left ≡ left') × (out ≡ out')
-
-abbrev pub RunByValueSettled : Type 0
-RunByValueSettled =
-    (c : Controller) (events answers : List ℕ) (r s : Outcome) (out out' : List ℕ)
-    → Listing c events answers (number_of r.answer) r.controller out → Listing c events answers (number_of s.answer) s.controller out' → (r ≡ s) × (out ≡ out')

@@ -3,6 +3,7 @@ pub mod Written
 pub mod Answers
 pub mod Exactly
 pub mod Settled
+pub mod Said
 pub mod Longest
 pub mod Sound
 pub mod Field

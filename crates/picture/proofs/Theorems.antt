@@ -1,5 +1,6 @@
 -- The theorems about the picture: from its bytes by index, and from what its dots depend on.
 use Prim.Native.Nat.{ℕ, zero, suc, ◌+◌, ◌*◌, ◌-◌, ◌<◌, ◌≤◌}
+use Rattle.std.specs.Prelude.{Ok}
 use borrow.Author.Tests.{ne_eqb}
 use lib.Arith.{digits_lt}
 use lib.Dec.{T, ltb, ltb→lt, nltb→le}
@@ -31,7 +32,6 @@ use Rattle.size.specs.Size.{lines_of, rows_of, bytes_of}
 use Rattle.picture.specs.Answers.{refusals, answer_for, buffer_for, Pictured}
 use Rattle.picture.specs.Picture.{picture_of}
 use Rattle.picture.specs.Theorems.{PictureGivenExactly, ByteByByte, RestStays, SameScreen, OnlyTheScreenMatters, DisplayOffIsZeros, FiveBitsOnly, stored_in, OnlyShownCellsMatter, GapMarksNothing}
-use Rattle.picture.specs.declared.Answer.TheVariants.{Done}
 use Rattle.picture.proofs.Lines.{length_picture, off_dots}
 
 -- ---- exactly when
@@ -51,7 +51,7 @@ picture_at c digits rom phase line row digit hl hr hd =
     ∙ values_at digits _ digit hd)
 
 -- a call that is done leaves the picture over the buffer
-done_over : (c : Controller) (digits : ℕ) (rom : List ℕ) (phase : Phase) (out left : List ℕ) → Pictured c digits rom phase out Done left → left ≡ over (picture_of c digits rom phase) out
+done_over : (c : Controller) (digits : ℕ) (rom : List ℕ) (phase : Phase) (out left : List ℕ) → Pictured c digits rom phase out (Ok tt) left → left ≡ over (picture_of c digits rom phase) out
 unfolding buffer_for
 done_over c digits rom phase out left p = p.buffer ∙ sym (done_writes _ _ out (sym p.number))
 
@@ -80,7 +80,7 @@ unmet (rule ∷ rules) t =
     (λ u e. (u, unmet rules (and_right (ltb 0 rule.number) (positive rules) t) e))
 
 -- so its buffer had room
-has_room : (c : Controller) (digits : ℕ) (rom : List ℕ) (phase : Phase) (out left : List ℕ) → Pictured c digits rom phase out Done left → bytes_of c.registers.mode digits ≤ length out
+has_room : (c : Controller) (digits : ℕ) (rom : List ℕ) (phase : Phase) (out left : List ℕ) → Pictured c digits rom phase out (Ok tt) left → bytes_of c.registers.mode digits ≤ length out
 unfolding answer_for refusals
 has_room c digits rom phase out left p =
     nltb→le (length out) (bytes_of c.registers.mode digits) (unmet (refusals c digits (length rom) (length out)) tt (sym p.number)).1.1.1.0

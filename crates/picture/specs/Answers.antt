@@ -1,22 +1,15 @@
--- "Refusal numbers": this paper's number for each answer to a picture, when it is given, and what a call leaves.
-use Rattle.std.specs.Prelude.{ℕ, ltb, eqb, length, not, List, [], ◌∷◌, ◌≡◌}
+-- "Refusal numbers": when a picture is refused, and what a call leaves.
+use Rattle.std.specs.Prelude.{⊤, ℕ, ltb, eqb, length, not, List, [], ◌∷◌, Result, ◌≡◌}
 use Rattle.condition.specs.First.{Rule, ◌when◌, first_of}
 use Rattle.controller.specs.Part.{in_range}
 use Rattle.controller.specs.declared.Controller.{Controller}
 use Rattle.dots.specs.Dots.{image_size}
 use Rattle.dots.specs.declared.phase.Phase.{Phase}
 use Rattle.lent.specs.Buffer.{unless_refused}
+use Rattle.refusal.specs.Refusals.{number_of}
+use Rattle.refusal.specs.declared.Refusal.{Refusal}
 use Rattle.size.specs.Size.{has_digits, bytes_of}
 use Rattle.picture.specs.Picture.{picture_of}
-use Rattle.picture.specs.declared.Answer.{Answer}
-use Rattle.picture.specs.declared.Answer.TheVariants.{Done, BadDigits, BadImage, ShortBuffer, NotInRange}
-
-abbrev pub number_of : Answer → ℕ
-number_of Done = 0
-number_of BadDigits = 4
-number_of BadImage = 5
-number_of ShortBuffer = 6
-number_of NotInRange = 16
 
 -- 16 first, then the lower number
 -- 4: digits 0, above 80 (one line), above 40 (two); 5: ROM image is not 4,096 bytes; 6: lent buffer too short
@@ -36,6 +29,6 @@ unfoldable pub buffer_for : Controller → (digits : ℕ) (rom : List ℕ) → P
 buffer_for c digits rom phase out =
     unless_refused (answer_for c digits (length rom) (length out)) (picture_of c digits rom phase) out
 
-pub record Pictured (c : Controller) (digits : ℕ) (rom : List ℕ) (phase : Phase) (out : List ℕ) (answer : Answer) (left : List ℕ) : Type 0 where
+pub record Pictured (c : Controller) (digits : ℕ) (rom : List ℕ) (phase : Phase) (out : List ℕ) (answer : Result ⊤ Refusal) (left : List ℕ) : Type 0 where
   pub number : number_of answer ≡ answer_for c digits (length rom) (length out)
   pub buffer : left ≡ buffer_for c digits rom phase out

@@ -1,5 +1,5 @@
 -- Theorems about the picture; each is proved in proofs/.
-use Rattle.std.specs.Prelude.{ℕ, ◌+◌, ◌*◌, ◌<◌, ◌≤◌, length, get_or, set, replicate, true, false, List, ◌≡◌}
+use Rattle.std.specs.Prelude.{⊤, ℕ, ◌+◌, ◌*◌, ◌<◌, ◌≤◌, length, get_or, set, replicate, true, false, List, Result, Ok, ◌≡◌}
 use Rattle.condition.specs.First.{Exactly}
 use Rattle.controller.specs.Part.{in_range}
 use Rattle.controller.specs.declared.Controller.{Controller}
@@ -10,16 +10,16 @@ use Rattle.counters.specs.declared.address.Cell.{Cell}
 use Rattle.dots.specs.Digit.{shown_on}
 use Rattle.dots.specs.Dots.{is_marked, dots_at}
 use Rattle.dots.specs.declared.phase.Phase.{Phase}
+use Rattle.refusal.specs.Refusals.{number_of}
+use Rattle.refusal.specs.declared.Refusal.{Refusal}
 use Rattle.size.specs.Size.{lines_of, rows_of, bytes_of}
-use Rattle.picture.specs.Answers.{number_of, refusals, answer_for, buffer_for, Pictured}
+use Rattle.picture.specs.Answers.{refusals, answer_for, buffer_for, Pictured}
 use Rattle.picture.specs.Picture.{picture_of}
-use Rattle.picture.specs.declared.Answer.{Answer}
-use Rattle.picture.specs.declared.Answer.TheVariants.{Done}
 
 -- two outcomes that the promise allows are equal, answer and buffer
 abbrev pub PictureSettled : Type 0
 PictureSettled =
-    (c : Controller) (digits : ℕ) (rom : List ℕ) (phase : Phase) (out : List ℕ) (answer other : Answer) (left left_other : List ℕ)
+    (c : Controller) (digits : ℕ) (rom : List ℕ) (phase : Phase) (out : List ℕ) (answer other : Result ⊤ Refusal) (left left_other : List ℕ)
     → Pictured c digits rom phase out answer left
     → Pictured c digits rom phase out other left_other
     → (answer ≡ other) × (left ≡ left_other)
@@ -27,7 +27,7 @@ PictureSettled =
 -- each number is given exactly when its rule says
 abbrev pub PictureGivenExactly : Type 0
 PictureGivenExactly =
-    (c : Controller) (digits : ℕ) (rom : List ℕ) (phase : Phase) (out : List ℕ) (answer : Answer) (left : List ℕ)
+    (c : Controller) (digits : ℕ) (rom : List ℕ) (phase : Phase) (out : List ℕ) (answer : Result ⊤ Refusal) (left : List ℕ)
     → Pictured c digits rom phase out answer left
     → Exactly (number_of answer) (refusals c digits (length rom) (length out)) 0
 
@@ -35,7 +35,7 @@ PictureGivenExactly =
 abbrev pub ByteByByte : Type 0
 ByteByByte =
     (c : Controller) (digits : ℕ) (rom : List ℕ) (phase : Phase) (out left : List ℕ)
-    → Pictured c digits rom phase out Done left
+    → Pictured c digits rom phase out (Ok tt) left
     → (line row digit : ℕ) → line < lines_of c.registers.mode.lines → row < rows_of c.registers.mode → digit < digits
     → get_or left ((line * rows_of c.registers.mode + row) * digits + digit) 0 ≡ dots_at c rom phase line row digit
 
@@ -43,7 +43,7 @@ ByteByByte =
 abbrev pub RestStays : Type 0
 RestStays =
     (c : Controller) (digits : ℕ) (rom : List ℕ) (phase : Phase) (out left : List ℕ)
-    → Pictured c digits rom phase out Done left
+    → Pictured c digits rom phase out (Ok tt) left
     → (length left ≡ length out) × ((k : ℕ) → bytes_of c.registers.mode digits ≤ k → get_or left k 0 ≡ get_or out k 0)
 
 -- two parts with the same memories, address, shift, mode and lights

@@ -1,66 +1,47 @@
 // The picture: the dots of every digit, one byte a digit and row.
 #![tactic(auto)]
 
-ghost use Rattle.std.specs.Prelude.{◌≡◌};
-ghost use Rattle.picture.specs.Answers.{number_of, Pictured};
+ghost use Rattle.picture.specs.Answers.{Pictured};
 
 mod whole;
 
 use controller::Controller;
-use dots::{IMAGE_SIZE, Phase};
+use dots::{Drawable, IMAGE_SIZE, Phase};
+use refusal::Refusal;
 use size::{byte_count, has_digits};
 use whole::draw;
 
-#[derive(Clone, Copy)]
-pub enum Answer {
-    Done,
-    BadDigits,
-    BadImage,
-    ShortBuffer,
-    NotInRange,
-}
-
-impl Answer {
-    // This paper's number.
-    pub fn number(self) -> u8
-        ensures { result ≡ number_of self }
-    {
-        match self {
-            Answer::Done => 0,
-            Answer::BadDigits => 4,
-            Answer::BadImage => 5,
-            Answer::ShortBuffer => 6,
-            Answer::NotInRange => 16,
-        }
-    }
-}
-
 // Writes lines x rows x digits bytes in the order line, row, digit; a refusal writes none.
+#[tactic(auto, using(size::proofs::Sizes::digits_counted, crate::proofs::Promise::shift_in_range))]
 pub fn picture(
     controller: Controller,
     digits: u8,
     rom: &[u8],
     phase: Phase,
     out: &mut [u8],
-) -> Answer
+) -> Result<(), Refusal>
     ensures { Pictured controller digits rom.now phase out.old result out.new }
 {
     let registers = controller.registers;
     if !registers.in_range() {
-        return Answer::NotInRange;
+        return Err(Refusal::NotInRange);
     }
     let mode = registers.mode;
-    let lines = mode.lines;
-    if !has_digits(lines, digits) {
-        return Answer::BadDigits;
+    if !has_digits(mode.lines, digits) {
+        return Err(Refusal::BadDigits);
     }
-    if rom.len() != IMAGE_SIZE {
-        return Answer::BadImage;
-    }
+    let Some(image) = rom.as_array::<IMAGE_SIZE>() else {
+        return Err(Refusal::BadImage);
+    };
     let bytes = byte_count(mode, digits);
     if out.len() < bytes {
-        return Answer::ShortBuffer;
+        return Err(Refusal::ShortBuffer);
     }
-    draw(controller, digits, rom, phase, &mut out[..bytes]);
-    Answer::Done
+    let drawable = Drawable {
+        controller,
+        digits,
+        phase,
+    };
+    draw(drawable, image, &mut out[..bytes]);
+    Ok(())
 }

@@ -1,5 +1,6 @@
 -- A bench record reads back as it was written.
 use Prim.Native.Nat.{ℕ, suc, ◌+◌, ◌*◌, ◌≤◌, ◌<◌}
+use Rattle.std.specs.Prelude.{Ok}
 use borrow.Author.Tests.{le-ltb}
 use lib.ListN.{length, drop, length-append}
 use mathlib.Core.Bool.{false}
@@ -10,7 +11,6 @@ use native.Mathlib.Omega.{arith}
 use Rattle.appending.proofs.Refusals.{append_roomy, append_done}
 use Rattle.appending.specs.Append.{longer, append_of}
 use Rattle.appending.specs.Empty.{empty_record, empty_of}
-use Rattle.appending.specs.declared.answer.Answer.TheVariants.{Done}
 use Rattle.condition.specs.First.{first_of}
 use Rattle.event.specs.declared.Event.{Event}
 use Rattle.lent.proofs.Left.{front_and_rest}
@@ -19,10 +19,9 @@ use Rattle.record.proofs.Framed.{AllKnown, known_more, record_sound, record_even
 use Rattle.record.proofs.InTurn.{sound_read, read_same, given_size}
 use Rattle.record.proofs.Sound.{sound}
 use Rattle.record.specs.Event.{event_of, is_none, raw_of, Fits}
+use Rattle.record.specs.Place.{Step}
 use Rattle.record.specs.Reading.{AllFit, Read, given_from}
 use Rattle.record.specs.Record.{most_events, most_bytes, framed, body_of, record_of, front_events, events_of, check_of}
-use Rattle.record.specs.declared.answer.Answer.TheVariants.{Done as Sound}
-use Rattle.record.specs.declared.places.Step.{Step}
 use Rattle.read_back.specs.Theorems.{ReadsBack, SoundExactlyWhenWritten, EarlierEventsStay}
 use Rattle.read_back.specs.Written.{Written, begun, more}
 use Rattle.read_back.proofs.Longer.{record_longer, longer_size, longer_sound}
@@ -60,7 +59,7 @@ written_sound {events} {bytes} w = let m = made w in ap check_of m.same ∙ reco
 append_more : {events : List Event} {bytes : List ℕ} (event : Event) (buffer : ℕ) → Written events bytes → length events < most_events → Fits event → length bytes + 3 ≤ buffer → append_of bytes (raw_of event) buffer ≡ 0
 append_more {events} {bytes} event buffer w few fits room =
     let size = written_size w in
-    sym (append_roomy bytes (raw_of event) buffer Sound (sym (written_sound w)) refl false (sym (ap is_none (fits_known event fits))) refl (λ z. omega arith) room)
+    sym (append_roomy bytes (raw_of event) buffer (sym (written_sound w)) (ap is_none (fits_known event fits)) (λ z. omega arith) room)
 
 empty_zero : (buffer : ℕ) → 3 ≤ buffer → empty_of buffer ≡ 0
 unfolding empty_of first_of
@@ -79,7 +78,7 @@ write_one : {events : List Event} {bytes : List ℕ} (event : Event) → Written
 write_one {events} {bytes} event w few fits =
     let size = written_size w in
     let zero = append_more event (length (longer bytes (raw_of event))) w few fits (omega (arith, longer_size bytes (raw_of event) (omega arith))) in
-    (_, more {out = longer bytes (raw_of event)} {r = Done} event w record { number = sym zero; buffer = refl } refl)
+    (_, more {out = longer bytes (raw_of event)} {r = Ok tt} event w record { number = sym zero; buffer = refl } refl)
 
 write_on : (front back : List Event) (bytes : List ℕ) → Written front bytes → length front + length back ≤ most_events → AllFit back → (bytes' : List ℕ) × Written (front ++ back) bytes'
 write_on front [] bytes w few fit = (bytes, subst (λ (l : List Event). Written l bytes) (sym (append-nil front)) w)
@@ -90,7 +89,7 @@ write_on front (event ∷ back) bytes w few fit =
 
 each_list : (events : List Event) → length events ≤ most_events → AllFit events → (bytes : List ℕ) × Written events bytes
 each_list events few fit =
-    write_on [] events _ (begun {out = empty_record} {r = Done} record { number = sym (empty_zero 3 (omega arith)); buffer = refl } refl) (omega arith) fit
+    write_on [] events _ (begun {out = empty_record} {r = Ok tt} record { number = sym (empty_zero 3 (omega arith)); buffer = refl } refl) (omega arith) fit
 
 pub reads_back : ReadsBack
 reads_back = record {

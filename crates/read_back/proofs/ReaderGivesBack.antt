@@ -1,14 +1,13 @@
 -- The reader of a record gives back what was written.
 use Prim.Native.Nat.{ℕ}
-use borrow.Author.Tests.{eq-eqb}
+use Rattle.std.specs.Prelude.{Ok, Err}
 use denote.Ref.{Bor}
 use mathlib.Core.List.{List}
 use mathlib.Core.Path.{◌≡◌, refl, sym, subst, ◌∙◌}
 use Rattle.reader.specs.declared.Reader.{Reader}
-use Rattle.record.specs.Place.{next_of}
+use Rattle.record.specs.Place.{Step, next_of}
 use Rattle.record.specs.Reading.{Read, no_more as read_all, then as and_then}
-use Rattle.record.specs.Record.{check_of}
-use Rattle.record.specs.declared.places.Step.{Step}
+use Rattle.refusal.proofs.Settled.{none_is_done}
 use Rattle.read_back.specs.Theorems.{ReaderGivesBack}
 use Rattle.read_back.specs.Written.{Gives, no_more, then}
 use Rattle.read_back.proofs.ReadBack.{reads_back}
@@ -27,11 +26,11 @@ in_calls held (and_then {place = place} {r = r} stands rest) =
     then {after = record { bytes = held; place = next_of r place }} record { stands = stands; held = refl; moved = stands.next } (in_calls held rest)
 
 pub reader_gives_back : ReaderGivesBack
-reader_gives_back bytes r events w p =
-    let zero : check_of bytes.now ≡ 0 = reads_back.sound w in
-    let start : r.reader.place ≡ 3 = p.start ∙ simp (eq-eqb _ _ zero) in
+reader_gives_back bytes (Err refusal) events w p = none_is_done refusal (p.number ∙ reads_back.sound w)
+reader_gives_back bytes (Ok reader) events w p =
+    let held : reader.bytes ≡ bytes = p.made.held in
+    let start : reader.place ≡ 3 = p.made.start in
     record {
-      sound = p.number ∙ zero;
-      gives = in_calls r.reader.bytes (rw (p.held, start) (reads_back.gives w));
-      gives_no_other = λ answers g size. reads_back.gives_no_other w (rw (p.held, start) at (in_turn g)) size;
+      gives = in_calls reader.bytes (rw (held, start) (reads_back.gives w));
+      gives_no_other = λ answers g size. reads_back.gives_no_other w (rw (held, start) at (in_turn g)) size;
     }

@@ -1,6 +1,7 @@
 pub mod Meanings
 pub mod Encoded
 pub mod FrontEvents
+pub mod Threes
 pub mod Sound
 pub mod Standing
 pub mod Framed

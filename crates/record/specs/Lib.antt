@@ -1,5 +1,4 @@
 pub mod Event
-pub mod Answers
 pub mod Record
 pub mod Place
 pub mod Reading

@@ -7,7 +7,7 @@ use mathlib.Core.Path.{◌≡◌, subst⁻¹}
 use native.Mathlib.Omega.{arith}
 use Rattle.lent.proofs.Placed.{puts_then}
 use Rattle.lent.specs.Put.{Puts}
-use Rattle.mending.specs.declared.answer.Mended.{Mended}
+use Rattle.mending.specs.declared.Mended.{Mended}
 use Rattle.record.specs.Record.{most_events}
 use Rattle.text.proofs.Decimal.{digits_below}
 use Rattle.text.specs.Text.{text_of, decimal_of}

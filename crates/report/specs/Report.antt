@@ -1,14 +1,14 @@
 -- What the program `mend` writes: the mended record to standard output, one line to standard error.
-use Rattle.std.specs.Prelude.{ℕ, ◌+◌, ltb, eqb, length, Bool, cond, ◌||◌, List, [], ◌∷◌, ◌++◌, ◌≡◌}
+use Rattle.std.specs.Prelude.{ℕ, ◌+◌, ltb, eqb, length, Bool, cond, ◌||◌, List, [], ◌∷◌, ◌++◌, Result, IfOk, ◌≡◌}
 use Rattle.condition.specs.First.{Rule, ◌when◌, first_of}
 use Rattle.lent.specs.Buffer.{unless_refused}
 use Rattle.mending.specs.Mend.{mended_of, mend_of, told_of}
-use Rattle.mending.specs.declared.answer.Mended.{Mended}
+use Rattle.mending.specs.declared.Mended.{Mended}
 use Rattle.record.specs.Record.{most_bytes}
+use Rattle.refusal.specs.Refusals.{number_of}
+use Rattle.refusal.specs.declared.Refusal.{Refusal}
 use Rattle.text.specs.Text.{text_of, decimal_of, refused_of}
-use Rattle.report.specs.declared.answer.Answer.{Answer}
-use Rattle.report.specs.declared.answer.Answer.TheVariants.{Done, ShortBuffer}
-use Rattle.report.specs.declared.answer.Sizes.{Sizes}
+use Rattle.report.specs.declared.written.Sizes.{Sizes}
 
 -- `kept K dropped D length altered` or `kept K dropped D length kept`
 unfoldable pub counts_of : Mended → List ℕ
@@ -43,17 +43,6 @@ most_line = 24 + 15
 
 -- ---- the answer
 
-abbrev pub number_of : Answer → ℕ
-number_of (Done sizes) = 0
-number_of ShortBuffer = 6
-
-abbrev pub no_bytes : Sizes
-no_bytes = record { mended = 0; line = 0 }
-
-abbrev pub value_of : Answer → Sizes
-value_of (Done sizes) = sizes
-value_of ShortBuffer = no_bytes
-
 -- 6: a lent buffer has no room for the longest of its kind
 abbrev pub refusals : (mended line : ℕ) → List Rule
 refusals mended line = (6 when (ltb mended most_bytes || ltb line most_line)) ∷ []
@@ -62,8 +51,8 @@ unfoldable pub answer_for : (mended line : ℕ) → ℕ
 answer_for mended line = first_of (refusals mended line) 0
 
 -- what `report` promises, of both buffers
-pub record Reported (bytes mended line : List ℕ) (r : Answer) (mended_left line_left : List ℕ) : Type 0 where
+pub record Reported (bytes mended line : List ℕ) (r : Result Sizes Refusal) (mended_left line_left : List ℕ) : Type 0 where
   pub number : number_of r ≡ answer_for (length mended) (length line)
-  pub value : value_of r ≡ cond (eqb (answer_for (length mended) (length line)) 0) (record { mended = length (record_for bytes); line = length (line_for bytes) }) no_bytes
+  pub value : IfOk r (λ sizes. sizes ≡ record { mended = length (record_for bytes); line = length (line_for bytes) })
   pub mended_buffer : mended_left ≡ unless_refused (answer_for (length mended) (length line)) (record_for bytes) mended
   pub line_buffer : line_left ≡ unless_refused (answer_for (length mended) (length line)) (line_for bytes) line

@@ -3,11 +3,11 @@
 
 ghost use Rattle.report.specs.Report.{Reported};
 
-mod answer;
 mod line;
 mod written;
 
-pub use answer::{Answer, Sizes};
+use refusal::Refusal;
+pub use written::Sizes;
 use written::put_both;
 
 // The bytes that a length field can speak of: its own two, and the most that it counts.
@@ -16,14 +16,14 @@ pub const MOST_INPUT: usize = 2 + 65535;
 pub const MOST_LINE: usize = line::MOST_BYTES;
 
 // The bytes behind what is written stay. A buffer that has no room for the longest record or line is refused, whatever the input.
-pub fn report(bytes: &[u8], mended: &mut [u8], line: &mut [u8]) -> Answer
+pub fn report(bytes: &[u8], mended: &mut [u8], line: &mut [u8]) -> Result<Sizes, Refusal>
     ensures { Reported bytes.now mended.old line.old result mended.new line.new }
 {
     if mended.len() < record::MOST_BYTES {
-        return Answer::ShortBuffer;
+        return Err(Refusal::ShortBuffer);
     }
     if line.len() < MOST_LINE {
-        return Answer::ShortBuffer;
+        return Err(Refusal::ShortBuffer);
     }
-    Answer::Done(put_both(bytes, mended, line))
+    Ok(put_both(bytes, mended, line))
 }

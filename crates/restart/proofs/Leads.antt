@@ -16,11 +16,9 @@ use Rattle.controller.specs.Result.{Result}
 use Rattle.controller.specs.Told.{Told, addressed, carried}
 use Rattle.controller.specs.declared.Controller.{Controller}
 use Rattle.controller.specs.declared.registers.Registers.{Registers}
-use Rattle.counters.specs.Address.{display}
-use Rattle.counters.specs.Shift.{shift}
 use Rattle.event.specs.declared.Kind.TheVariants.{InstructionWrite}
 use Rattle.step.specs.Step.{result_for}
-use Rattle.restart.specs.Compared.{Holds, answers}
+use Rattle.restart.specs.Compared.{Holds}
 use Rattle.restart.specs.Writes.{Write, told_of, Given, after, AtEach}
 
 -- the step that a write with the upper lines h and the lower lines l comes to, the busy time waited out

@@ -12,16 +12,17 @@ use Rattle.controller.specs.Part.{awaiting, arranged, fresh_registers}
 use Rattle.controller.specs.Result.{Result, forgotten}
 use Rattle.controller.specs.declared.registers.Mode.{Mode}
 use Rattle.controller.specs.declared.registers.Registers.{Registers}
+use Rattle.counters.specs.Address.{line_mode}
 use Rattle.counters.specs.declared.LineMode.TheVariants.{Two}
 use Rattle.event.specs.declared.Kind.{Kind}
 use Rattle.event.specs.declared.Kind.TheVariants.{InstructionWrite, DataWrite, StatusRead, DataRead}
-use Rattle.halves.specs.Halves.{upper, is_four, half_fits}
+use Rattle.halves.specs.Halves.{upper, is_four, half_fits, line_count}
 use Rattle.halves.specs.declared.Half.{Half}
 use Rattle.halves.specs.declared.LineCount.{LineCount}
 use Rattle.halves.specs.declared.LineCount.TheVariants.{Eight, Four}
 use Rattle.instructions.proofs.Decoded.{decoded_by_range}
 use Rattle.instructions.proofs.Rows.{leaves_no_half, answers_done_or_three, only_clear_changes, function_set_is_done, function_set_sets_lines, function_set_keeps_memories}
-use Rattle.instructions.specs.Instructions.{bit, line_count, line_mode, decode, rearranged, obey}
+use Rattle.instructions.specs.Instructions.{bit, decode, rearranged, obey}
 use Rattle.instructions.specs.declared.instruction.Instruction.{Instruction}
 use Rattle.instructions.specs.declared.instruction.Instruction.TheVariants.{FunctionSet}
 use Rattle.step.specs.Step.{first_half, result_for}

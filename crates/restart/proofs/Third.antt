@@ -15,7 +15,7 @@ use Rattle.controller.specs.Part.{with, longest, in_range, fresh_with}
 use Rattle.controller.specs.declared.Controller.{Controller}
 use Rattle.event.specs.declared.Event.TheVariants.{Transfer}
 use Rattle.event.specs.declared.Kind.TheVariants.{InstructionWrite}
-use Rattle.halves.specs.Halves.{lower, answered}
+use Rattle.halves.specs.Halves.{lower}
 use Rattle.picture.specs.Answers.{answer_for, buffer_for}
 use Rattle.restart.specs.Compared.{fresh_like}
 use Rattle.restart.specs.Statement.{ThirdStatement, ForEveryController, RestartRuns}

@@ -8,7 +8,8 @@ ghost use Rattle.restart.specs.Writes.{patiently, told_of, lower_lines, restart_
 
 use bus::Outcome;
 use controller::Controller;
-use controller::answer::Answer;
+use controller::answer::Reply;
+use refusal::Refusal;
 use run::run_events;
 
 // One write of the restart, after the busy time: a list of two events.
@@ -17,16 +18,9 @@ fn write(controller: Controller, upper: u8, lower: u8) -> Controller
     requires { (upper ≤ 15) × (in_range controller.registers ≡ true) }
     ensures { (result ≡ (told_of upper (patiently (lower % 16)) controller).controller) × (in_range result.registers ≡ true) }
 {
-    let ticks = Controller::LONGEST;
+    let [high, low] = Controller::LONGEST.to_be_bytes();
     // A wait is kind 4, an instruction write 0.
-    let events = [
-        4,
-        (ticks / 256) as u8,
-        (ticks % 256) as u8,
-        0,
-        0,
-        upper * 16 + lower % 16,
-    ];
+    let events = [4, high, low, 0, 0, upper * 16 + lower % 16];
     let mut answers = [0u8; 6];
     run_events(controller, &events, &mut answers)
 }
@@ -35,7 +29,7 @@ fn write(controller: Controller, upper: u8, lower: u8) -> Controller
 const UPPER: [u8; 12] = [0x3, 0x3, 0x3, 0x2, 0x2, 0x8, 0x0, 0x8, 0x0, 0x2, 0x0, 0x6];
 
 // The lower four lines of each write are the caller's: of each number the low half counts.
-#[tactic(auto, using(crate::proofs::Firsts::upper_small), unfolding(crate::specs::Writes::restart_of))]
+#[tactic(auto, unfolding(crate::specs::Writes::restart_of))]
 pub fn restart(controller: Controller, lower: [u8; 12]) -> Outcome
     ensures { told result ≡ restart_of controller (lower_lines lower) }
 {
@@ -43,20 +37,18 @@ pub fn restart(controller: Controller, lower: [u8; 12]) -> Outcome
     if !registers.in_range() {
         return Outcome {
             controller,
-            answer: Answer::NotInRange,
+            answer: Err(Refusal::NotInRange),
             wrap: false,
         };
     }
     let mut after = controller;
-    let mut i = 0;
-    while i < 12 {
-        after = write(after, UPPER[i], lower[i]);
-        i += 1;
+    for (upper, lower) in UPPER.iter().zip(&lower) {
+        after = write(after, *upper, *lower);
     }
     // What its writes say of the wrap is not handed on.
     Outcome {
         controller: after,
-        answer: Answer::Done(0),
+        answer: Ok(Reply::Done(0)),
         wrap: false,
     }
 }

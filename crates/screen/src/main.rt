@@ -1,13 +1,11 @@
 // The screen program: one record from standard input, the picture that it leaves to standard output.
 #![tactic(auto)]
 
-use dots::Phase;
-use drawing::Form;
 use std::env::{Env, FillError};
 use std::fs::File;
 use std::io;
 use std::io::{Read, Write};
-use view::{Asked, view};
+use view::{Wanted, view};
 
 // A byte more than the longest record and than a ROM image, so that a longer one is seen.
 const INPUT: u64 = record::MOST_BYTES as u64 + 1;
@@ -17,25 +15,25 @@ const IMAGE: u64 = dots::IMAGE_SIZE as u64 + 1;
 // The most bytes of a word; a longer one is read as an empty one.
 const WORD: usize = 4096;
 
-// How many words follow the program's name.
+// How many words follow the program's name. Nothing can be promised of what the system hands over, so no library has this.
 fn words(rt: &impl Env) -> usize {
     (1..usize::MAX)
         .position(|at| matches!(rt.arg(at, &mut []), Err(FillError::NotPresent)))
         .unwrap_or(0)
 }
 
-fn asked(rt: &impl Env) -> Asked {
-    let mut digits = [0u8; WORD];
-    let mut phase = [0u8; WORD];
-    let mut form = [0u8; WORD];
-    let digits_size = rt.arg(1, &mut digits).unwrap_or(0);
-    let phase_size = rt.arg(3, &mut phase).unwrap_or(0);
-    let form_size = rt.arg(4, &mut form).unwrap_or(0);
+// One of them; nothing of one that is missing or longer than the buffer.
+fn word<'a>(rt: &impl Env, at: usize, buffer: &'a mut [u8]) -> &'a [u8] {
+    let size = rt.arg(at, buffer).unwrap_or(0);
+    &buffer[..size]
+}
+
+fn asked(rt: &impl Env) -> Option<Wanted> {
     view::asked_by(
         words(rt),
-        &digits[..digits_size],
-        &phase[..phase_size],
-        &form[..form_size],
+        word(rt, 1, &mut [0; WORD]),
+        word(rt, 3, &mut [0; WORD]),
+        word(rt, 4, &mut [0; WORD]),
     )
 }
 
@@ -65,26 +63,25 @@ fn fail(rt: &HostRuntime, path: &[u8], error: io::Error) -> io::Result<()> {
 }
 
 #[tactic(auto, using(printing::proofs::Printed::at_the_front))]
-fn show(rt: &HostRuntime, digits: u8, phase: Phase, form: Form, rom: &[u8]) -> io::Result<()> {
+fn show(rt: &HostRuntime, wanted: Wanted, rom: &[u8]) -> io::Result<()> {
     let mut input = Vec::new(rt.alloc());
     rt.stdin().take(INPUT).read_to_end(&mut input)?;
+    // Fixed memory: the largest drawing has room.
     let mut text = [0u8; drawing::MOST_BYTES];
-    let size = view(digits, phase, form, rom, &input, &mut text).value();
+    let size = view(wanted, rom, &input, &mut text).unwrap_or(0);
     rt.stdout().write_all(&text[..size])
 }
 
 fn main(rt: HostRuntime) -> io::Result<()> {
-    match asked(&rt) {
-        Asked::Usage => rt
+    let Some(wanted) = asked(&rt) else {
+        return rt
             .stdout()
-            .write_all(b"usage: screen DIGITS ROM plain|dark [pbm]\n"),
-        Asked::View(digits, phase, form) => {
-            let mut path = [0u8; WORD];
-            let size = rt.arg(2, &mut path).unwrap_or(0);
-            match image(&rt, &path[..size]) {
-                Ok(rom) => show(&rt, digits, phase, form, &rom),
-                Err(error) => fail(&rt, &path[..size], error),
-            }
-        }
+            .write_all(b"usage: screen DIGITS ROM plain|dark [pbm]\n");
+    };
+    let mut buffer = [0u8; WORD];
+    let path = word(&rt, 2, &mut buffer);
+    match image(&rt, path) {
+        Ok(rom) => show(&rt, wanted, &rom),
+        Err(error) => fail(&rt, path, error),
     }
 }

@@ -1,19 +1,18 @@
 -- Helpers of contracts, not rules of the paper: what the lines ask.
 use Rattle.std.specs.Float.Ieee.{is_nan}
-use Rattle.std.specs.Prelude.{ℕ, ◌+◌, ◌*◌, ◌≤◌, T, not}
-use Rattle.decimals.specs.Promises.{Formula}
+use Rattle.std.specs.Prelude.{ℕ, ◌+◌, ◌*◌, T, Float, not, List, [], ◌∷◌}
 use Rattle.voltages.specs.declared.Steps.{Steps}
 use Rattle.voltages.specs.declared.Steps.TheVariants.{Quarter, Fifth}
 use Rattle.sheet.specs.Sheet.{most_behind}
 
 -- every voltage is a number
-abbrev pub AllNumbers : Steps → Type 0
-AllNumbers (Quarter one two three) = T (not (is_nan one)) × T (not (is_nan two)) × T (not (is_nan three))
-AllNumbers (Fifth one two three four) = T (not (is_nan one)) × T (not (is_nan two)) × T (not (is_nan three)) × T (not (is_nan four))
+abbrev pub Numbers : List Float → Type 0
+Numbers [] = Unit {0}
+Numbers (volts ∷ more) = T (not (is_nan volts)) × Numbers more
 
--- the numbers of every formula of a bias
-abbrev pub Formulas : (divisor vdd span : ℕ) → Type 0
-Formulas divisor vdd span = (k : ℕ) → k ≤ 4 → Formula divisor vdd span k
+abbrev pub AllNumbers : Steps → Type 0
+AllNumbers (Quarter steps) = Numbers steps
+AllNumbers (Fifth steps) = Numbers steps
 
 -- three lines, by the lengths of the names that are not V1
 abbrev pub most_three : (second third : ℕ) → ℕ

@@ -1,13 +1,15 @@
 -- What `bias` prints: a line for each voltage, or a refusal.
 use Rattle.std.specs.Float.{binary32}
-use Rattle.std.specs.Float.Ieee.{to_bits}
-use Rattle.std.specs.Prelude.{ℕ, ◌+◌, ◌*◌, Float, List, ◌++◌}
+use Rattle.std.specs.Float.Ieee.{nan, to_bits}
+use Rattle.std.specs.Prelude.{ℕ, ◌+◌, ◌*◌, Float, Result, Ok, Err, List, ◌++◌, slice_index_or}
 use Rattle.decimals.specs.Decimals.{digits_in, printed_volts, most_volts}
+use Rattle.decimals.specs.declared.volts.Formula.{Formula}
+use Rattle.refusal.specs.Refusals.{number}
+use Rattle.refusal.specs.declared.Refusal.{Refusal}
 use Rattle.text.specs.Text.{text_of, refused_of}
-use Rattle.voltages.specs.Answers.{number_of, answer_of}
-use Rattle.voltages.specs.declared.Answer.{Answer}
-use Rattle.voltages.specs.declared.Answer.TheVariants.{Done, BadVdd, BadSpan}
-use Rattle.voltages.specs.declared.Bias.{Bias}
+use Rattle.voltages.specs.Answers.{answer_of}
+use Rattle.voltages.specs.Voltages.{divisor_of}
+use Rattle.voltages.specs.declared.Drive.{Drive}
 use Rattle.voltages.specs.declared.Steps.{Steps}
 use Rattle.voltages.specs.declared.Steps.TheVariants.{Quarter, Fifth}
 
@@ -16,29 +18,36 @@ use Rattle.voltages.specs.declared.Steps.TheVariants.{Quarter, Fifth}
 unfoldable pub bits_of : Float → List ℕ
 bits_of volts = text_of " " ++ (digits_in 16 8 (to_bits binary32 volts) ++ text_of "\n")
 
-unfoldable pub voltage_line : (name : List ℕ) (divisor vdd span k : ℕ) → Float → List ℕ
-voltage_line name divisor vdd span k volts = name ++ (printed_volts divisor vdd span k ++ bits_of volts)
+-- the formula of step k
+abbrev pub formula_of : Drive → (k : ℕ) → Formula
+formula_of drive k = record { divisor = divisor_of drive.bias; vdd = drive.vdd; span = drive.span; k = k }
+
+unfoldable pub voltage_line : (name : List ℕ) → Drive → (k : ℕ) → Float → List ℕ
+voltage_line name drive k volts = name ++ (printed_volts (formula_of drive k) ++ bits_of volts)
 
 -- the first three, which have other names in quarter bias than in fifth
-unfoldable pub three_lines : (divisor vdd span : ℕ) (second third : List ℕ) (one two three : Float) → List ℕ
-three_lines divisor vdd span second third one two three =
-    voltage_line (text_of "V1 ") divisor vdd span 1 one
-    ++ (voltage_line second divisor vdd span 2 two
-    ++ voltage_line third divisor vdd span 3 three)
+unfoldable pub three_lines : Drive → (second third : List ℕ) (one two three : Float) → List ℕ
+three_lines drive second third one two three =
+    voltage_line (text_of "V1 ") drive 1 one
+    ++ (voltage_line second drive 2 two
+    ++ voltage_line third drive 3 three)
 
-unfoldable pub voltage_lines : (vdd span : ℕ) → Steps → List ℕ
-voltage_lines vdd span (Quarter one two three) = three_lines 4 vdd span (text_of "V2=V3 ") (text_of "V4 ") one two three
-voltage_lines vdd span (Fifth one two three four) =
-    three_lines 5 vdd span (text_of "V2 ") (text_of "V3 ") one two three ++ voltage_line (text_of "V4 ") 5 vdd span 4 four
+-- the voltage at a place; quarter bias has three, fifth four
+abbrev pub volts_at : List Float → ℕ → Float
+volts_at steps k = slice_index_or steps k nan
+
+unfoldable pub voltage_lines : Drive → Steps → List ℕ
+voltage_lines drive (Quarter steps) = three_lines drive (text_of "V2=V3 ") (text_of "V4 ") (volts_at steps 0) (volts_at steps 1) (volts_at steps 2)
+voltage_lines drive (Fifth steps) =
+    three_lines drive (text_of "V2 ") (text_of "V3 ") (volts_at steps 0) (volts_at steps 1) (volts_at steps 2) ++ voltage_line (text_of "V4 ") drive 4 (volts_at steps 3)
 
 -- "`refused 21` or `refused 22` alone on a line for those"
-unfoldable pub printed_for : (vdd span : ℕ) → Answer → List ℕ
-printed_for vdd span (Done steps) = voltage_lines vdd span steps
-printed_for vdd span BadVdd = refused_of (number_of BadVdd)
-printed_for vdd span BadSpan = refused_of (number_of BadSpan)
+unfoldable pub printed_for : Drive → Result Steps Refusal → List ℕ
+printed_for drive (Ok steps) = voltage_lines drive steps
+printed_for drive (Err refusal) = refused_of (number refusal)
 
-unfoldable pub sheet_of : (vdd span : ℕ) → Bias → List ℕ
-sheet_of vdd span bias = printed_for vdd span (answer_of vdd span bias)
+unfoldable pub sheet_of : Drive → List ℕ
+sheet_of drive = printed_for drive (answer_of drive)
 
 -- ---- how long it can be
 

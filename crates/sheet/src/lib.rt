@@ -9,19 +9,19 @@ mod lines;
 mod words;
 
 use lines::put_sheet;
-use printing::Answer;
-use voltages::Bias;
-pub use words::{Asked, asked_by};
+use refusal::Refusal;
+use voltages::Drive;
+pub use words::asked_by;
 
 // Room for the four lines of fifth bias.
 pub const MOST_BYTES: usize = 4 * (lines::NAME_BYTES + line::MOST_BEHIND);
 
 // A line for each voltage, or the refusal; bytes behind what is written stay. A buffer below MOST_BYTES is refused, whatever the numbers.
-pub fn sheet(vdd: u16, span: u16, bias: Bias, out: &mut [u8]) -> Answer
-    ensures { Printed most_sheet (sheet_of vdd span bias) out.old result out.new }
+pub fn sheet(drive: Drive, out: &mut [u8]) -> Result<usize, Refusal>
+    ensures { Printed most_sheet (sheet_of drive) out.old result out.new }
 {
     if out.len() < MOST_BYTES {
-        return Answer::ShortBuffer;
+        return Err(Refusal::ShortBuffer);
     }
-    Answer::Done(put_sheet(vdd, span, bias, out))
+    Ok(put_sheet(drive, out))
 }

@@ -41,8 +41,7 @@ pub fn line_count(lines: LineMode) -> u8
 pub fn row_count(mode: Mode) -> usize
     ensures { (result ≡ rows_of mode) × (8 ≤ result) × (result ≤ 11) }
 {
-    let lines = mode.lines;
-    match lines {
+    match mode.lines {
         LineMode::One => { if mode.tall { 11 } else { 8 } }
         LineMode::Two => 8,
     }
@@ -51,6 +50,5 @@ pub fn row_count(mode: Mode) -> usize
 pub fn byte_count(mode: Mode, digits: u8) -> usize
     ensures { result ≡ bytes_of mode digits }
 {
-    let lines = mode.lines;
-    line_count(lines) as usize * row_count(mode) * digits as usize
+    line_count(mode.lines) as usize * row_count(mode) * digits as usize
 }

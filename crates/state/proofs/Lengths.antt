@@ -1,21 +1,22 @@
 -- Laws that callers cite: what is known of bytes that are taken, and the length of bytes that are put.
 use Prim.Native.Nat.{ℕ, ◌≤◌}
+use Rattle.std.proofs.lemmas.Option.{cond_some}
+use Rattle.std.proofs.lemmas.Slice.Eq.{bytes_eq-Decides}
+use Rattle.std.specs.Prelude.{Some}
 use lib.Dec.{T, eqb→eq, eqb}
 use lib.ListN.{length, take, drop, length-append, length-take, length-drop, take-append-drop, drop_of_length-le}
 use lib.Seq.{drop-drop}
-use mathlib.Core.Bool.{Bool, true, false, cond, ◌&&◌}
+use mathlib.Core.Bool.{Bool, ◌&&◌}
 use mathlib.Core.List.{List, ◌++◌, append-nil}
-use mathlib.Core.Option.{none, some}
 use mathlib.Core.Path.{◌≡◌, sym, ap, ◌∙◌, subst}
 use native.Mathlib.Omega.{arith}
-use Rattle.condition.proofs.Tests.{and_left, and_right}
+use Rattle.condition.proofs.Tests.{and_left, and_right, is_true, holds}
 use Rattle.controller.specs.Part.{in_range}
 use Rattle.controller.specs.declared.Controller.{Controller}
 use Rattle.lent.specs.Buffer.{over}
 use Rattle.state.specs.State.{state_bytes, registers_put, put_of}
-use Rattle.state.specs.Taken.{registers_read, put_again, read_off, is_state, taken_of, answer_taken, controller_taken}
+use Rattle.state.specs.Taken.{registers_read, put_again, read_off, is_state, taken_of}
 use Rattle.state.specs.Theorems.{Held}
-use Rattle.state.proofs.Compared.{same_bytes_lem}
 
 -- ---- bytes that are put
 
@@ -44,7 +45,9 @@ module _ (bytes : List ℕ) (t : T (is_state bytes)) where
 
   state_registers : drop 144 bytes ≡ registers_put (registers_read bytes)
   unfolding is_state put_again
-  state_registers = same_bytes_lem (drop 144 bytes) (registers_put (registers_read bytes)) (and_left (put_again bytes) range_test (and_right size_test (put_again bytes && range_test) t))
+  state_registers =
+      let same : T (put_again bytes) = and_left (put_again bytes) range_test (and_right size_test (put_again bytes && range_test) t) in
+      (bytes_eq-Decides (drop 144 bytes) (registers_put (registers_read bytes))).0 (is_true (put_again bytes) same)
 
   pub state_held : Held bytes (read_off bytes)
   unfolding is_state read_off put_of
@@ -61,19 +64,14 @@ module _ (bytes : List ℕ) (t : T (is_state bytes)) where
             ∙ ap (λ (l : List ℕ). take 80 bytes ++ l) (sym (take-append-drop 64 (drop 80 bytes)) ∙ ap (λ (l : List ℕ). take 64 (drop 80 bytes) ++ l) behind);
       }
 
--- what is found was asked for
-chosen : (b : Bool) (k c : Controller) → cond b (some k) none ≡ some c → T b × (k ≡ c)
-chosen true k c e = (tt, ap controller_taken e)
-chosen false k c e = absurd (let z : ◌≡◌ {A = ℕ} 16 0 = ap answer_taken e in omega arith)
-
-module _ (bytes : List ℕ) (c : Controller) (e : taken_of bytes ≡ some c) where
+module _ (bytes : List ℕ) (c : Controller) (e : taken_of bytes ≡ Some c) where
   pub taken_held : Held bytes c
   unfolding taken_of
-  taken_held = let p = chosen (is_state bytes) (read_off bytes) c e in subst (Held bytes) p.1 (state_held bytes p.0)
+  taken_held = let p = cond_some (is_state bytes) (read_off bytes) c e in subst (Held bytes) p.1 (state_held bytes (holds (is_state bytes) p.0))
 
   pub taken_length : length bytes ≡ 159
   unfolding taken_of
-  taken_length = state_length bytes (chosen (is_state bytes) (read_off bytes) c e).0
+  taken_length = state_length bytes (holds (is_state bytes) (cond_some (is_state bytes) (read_off bytes) c e).0)
 
   pub taken_in_range : T (in_range c.registers)
   taken_in_range = taken_held.sound.ranged

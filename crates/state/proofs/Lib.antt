@@ -1,4 +1,3 @@
-pub mod Compared
 pub mod Back
 pub mod Lengths
 pub mod Promise

@@ -1,4 +1,3 @@
-pub mod Answers
 pub mod State
 pub mod Taken
 pub mod Theorems

@@ -1,29 +1,29 @@
 -- What `put` and `take` promise: only what is put is taken; any other run of bytes is 16.
-use Rattle.std.proofs.Math.Option.{Option, none, some}
-use Rattle.std.specs.Prelude.{ℕ, ◌+◌, ◌*◌, ◌-◌, ltb, eqb, length, take, drop, get_or, Bool, true, false, cond, ◌&&◌, List, [], ◌∷◌, ◌≡◌}
+use Rattle.std.specs.Option.{ok_or}
+use Rattle.std.specs.Prelude.{⊤, ℕ, ◌+◌, ◌*◌, ◌-◌, ltb, eqb, length, take, drop, get_or, Bool, cond, ◌&&◌, List, [], ◌∷◌, Option, None, Some, Result, ◌≡◌}
+use Rattle.std.specs.Str.{bytes_eq}
 use Rattle.condition.specs.First.{Rule, ◌when◌, first_of}
-use Rattle.controller.specs.Part.{in_range, switched_on, with}
+use Rattle.controller.specs.Part.{in_range, with}
 use Rattle.controller.specs.declared.Controller.{Controller}
 use Rattle.controller.specs.declared.registers.Entry.{Entry}
 use Rattle.controller.specs.declared.registers.Lights.{Lights}
 use Rattle.controller.specs.declared.registers.Mode.{Mode}
 use Rattle.controller.specs.declared.registers.Registers.{Registers}
-use Rattle.counters.specs.Address.{display, character}
+use Rattle.counters.specs.Address.{line_mode, display, character}
 use Rattle.counters.specs.Shift.{shift}
 use Rattle.counters.specs.declared.LineMode.{LineMode}
-use Rattle.counters.specs.declared.LineMode.TheVariants.{One, Two}
 use Rattle.counters.specs.declared.counter.Counter.{Counter}
 use Rattle.counters.specs.declared.counter.Counter.TheVariants.{Display, Character}
 use Rattle.event.specs.Kind.{kind_of}
+use Rattle.halves.specs.Halves.{line_count}
 use Rattle.halves.specs.declared.Half.{Half}
 use Rattle.halves.specs.declared.Half.TheVariants.{Nothing, Waiting}
 use Rattle.halves.specs.declared.LineCount.{LineCount}
-use Rattle.halves.specs.declared.LineCount.TheVariants.{Eight, Four}
 use Rattle.lent.specs.Buffer.{unless_refused}
-use Rattle.state.specs.Answers.{number_of}
+use Rattle.refusal.specs.Refusals.{number_of}
+use Rattle.refusal.specs.declared.Refusal.{Refusal}
+use Rattle.refusal.specs.declared.Refusal.TheVariants.{NotInRange}
 use Rattle.state.specs.State.{state_bytes, registers_put, put_of}
-use Rattle.state.specs.declared.Taken.{Taken}
-use Rattle.state.specs.declared.answer.Answer.{Answer}
 
 -- ---- the field of a number, whatever it is
 
@@ -34,10 +34,10 @@ abbrev pub flag_read : ℕ → Bool
 flag_read n = eqb n 1
 
 abbrev pub bus_read : ℕ → LineCount
-bus_read n = cond (flag_read n) Eight Four
+bus_read n = line_count (flag_read n)
 
 abbrev pub lines_read : ℕ → LineMode
-lines_read n = cond (flag_read n) Two One
+lines_read n = line_mode (flag_read n)
 
 abbrev pub half_read : (number upper : ℕ) → Half
 half_read number upper = cond (eqb number 0) Nothing (Waiting (kind_of (number - 1)) upper)
@@ -71,22 +71,16 @@ read_off bytes = with (take 80 bytes) (take 64 (drop 80 bytes)) (registers_read 
 
 -- ---- only what is put is taken
 
-unfoldable pub same_bytes : List ℕ → List ℕ → Bool
-same_bytes [] [] = true
-same_bytes [] (y ∷ ys) = false
-same_bytes (x ∷ xs) [] = false
-same_bytes (x ∷ xs) (y ∷ ys) = eqb x y && same_bytes xs ys
-
 -- the bytes behind the memories are those that the registers read off them are put as
 unfoldable pub put_again : List ℕ → Bool
-put_again bytes = same_bytes (drop 144 bytes) (registers_put (registers_read bytes))
+put_again bytes = bytes_eq (drop 144 bytes) (registers_put (registers_read bytes))
 
 -- 159 bytes, which are put again as they are, of a controller in range
 unfoldable pub is_state : List ℕ → Bool
 is_state bytes = eqb (length bytes) state_bytes && (put_again bytes && in_range (registers_read bytes))
 
 unfoldable pub taken_of : List ℕ → Option Controller
-taken_of bytes = cond (is_state bytes) (some (read_off bytes)) none
+taken_of bytes = cond (is_state bytes) (Some (read_off bytes)) None
 
 -- ---- what `put` promises, of any controller
 
@@ -97,22 +91,12 @@ refusals buffer = (6 when ltb buffer state_bytes) ∷ []
 unfoldable pub answer_for : (buffer : ℕ) → ℕ
 answer_for buffer = first_of (refusals buffer) 0
 
-pub record Putting (c : Controller) (out : List ℕ) (r : Answer) (left : List ℕ) : Type 0 where
+pub record Putting (c : Controller) (out : List ℕ) (r : Result ⊤ Refusal) (left : List ℕ) : Type 0 where
   pub number : number_of r ≡ answer_for (length out)
   pub buffer : left ≡ unless_refused (answer_for (length out)) (put_of c) out
 
 -- ---- what `take` promises
 
--- 16 where none is found
-abbrev pub answer_taken : Option Controller → ℕ
-answer_taken (some c) = 0
-answer_taken none = 16
-
--- beside a refusal, the part just switched on
-abbrev pub controller_taken : Option Controller → Controller
-controller_taken (some c) = c
-controller_taken none = switched_on
-
-pub record Taking (bytes : List ℕ) (r : Taken) : Type 0 where
-  pub number : number_of r.answer ≡ answer_taken (taken_of bytes)
-  pub controller : r.controller ≡ controller_taken (taken_of bytes)
+-- 16 where the bytes are put of no controller in range
+abbrev pub Taking : (bytes : List ℕ) (r : Result Controller Refusal) → Type 0
+Taking bytes r = r ≡ ok_or (taken_of bytes) NotInRange

@@ -1,8 +1,8 @@
 // The registers that the fifteen bytes behind the memories would be: each field off its byte, whatever it holds.
-ghost use Rattle.std.specs.Prelude.{◌+◌, ◌*◌, length, get_or, ◌≡◌};
-ghost use Rattle.state.specs.State.{state_bytes};
-ghost use Rattle.state.specs.Taken.{counter_read, bus_read, half_read, mode_read, entry_read, lights_read, registers_read};
+ghost use Rattle.std.specs.Prelude.{get_or, ◌≡◌};
+ghost use Rattle.state.specs.Taken.{counter_read, half_read, mode_read, entry_read, lights_read, registers_read};
 
+use super::BYTES;
 use controller::registers::{Entry, Lights, Mode, Registers};
 use counters::LineMode;
 use counters::address::{CharacterAddress, DisplayAddress};
@@ -11,8 +11,7 @@ use counters::shift::Shift;
 use event::Kind;
 use halves::{Half, LineCount};
 
-fn counter_read(bytes: &[u8]) -> Counter
-    requires { length bytes.now ≡ state_bytes }
+fn counter_read(bytes: &[u8; BYTES]) -> Counter
     ensures { result ≡ counter_read (get_or bytes.now 144 0) (get_or bytes.now 145 0) }
 {
     let address = bytes[145];
@@ -23,37 +22,16 @@ fn counter_read(bytes: &[u8]) -> Counter
     }
 }
 
-fn bus_read(bytes: &[u8]) -> LineCount
-    requires { length bytes.now ≡ state_bytes }
-    ensures { result ≡ bus_read (get_or bytes.now 147 0) }
-{
-    if bytes[147] == 1 {
-        LineCount::Eight
-    } else {
-        LineCount::Four
-    }
-}
-
-fn mode_read(bytes: &[u8]) -> Mode
-    requires { length bytes.now ≡ state_bytes }
+fn mode_read(bytes: &[u8; BYTES]) -> Mode
     ensures { result ≡ mode_read bytes.now }
 {
-    let tall = bytes[149] == 1;
-    if bytes[148] == 1 {
-        Mode {
-            lines: LineMode::Two,
-            tall,
-        }
-    } else {
-        Mode {
-            lines: LineMode::One,
-            tall,
-        }
+    Mode {
+        lines: LineMode::from(bytes[148] == 1),
+        tall: bytes[149] == 1,
     }
 }
 
-fn entry_read(bytes: &[u8]) -> Entry
-    requires { length bytes.now ≡ state_bytes }
+fn entry_read(bytes: &[u8; BYTES]) -> Entry
     ensures { result ≡ entry_read bytes.now }
 {
     Entry {
@@ -62,8 +40,7 @@ fn entry_read(bytes: &[u8]) -> Entry
     }
 }
 
-fn lights_read(bytes: &[u8]) -> Lights
-    requires { length bytes.now ≡ state_bytes }
+fn lights_read(bytes: &[u8; BYTES]) -> Lights
     ensures { result ≡ lights_read bytes.now }
 {
     Lights {
@@ -73,8 +50,7 @@ fn lights_read(bytes: &[u8]) -> Lights
     }
 }
 
-fn half_read(bytes: &[u8]) -> Half
-    requires { length bytes.now ≡ state_bytes }
+fn half_read(bytes: &[u8; BYTES]) -> Half
     ensures { result ≡ half_read (get_or bytes.now 155 0) (get_or bytes.now 156 0) }
 {
     let number = bytes[155];
@@ -86,16 +62,8 @@ fn half_read(bytes: &[u8]) -> Half
     }
 }
 
-// Two bytes, high byte first.
-fn word(high: u8, low: u8) -> u16
-    ensures { result ≡ high * 256 + low }
-{
-    (high as u16) * 256 + (low as u16)
-}
-
 #[tactic(auto, unfolding(crate::specs::Taken::registers_read))]
-pub(crate) fn registers_of(bytes: &[u8]) -> Registers
-    requires { length bytes.now ≡ state_bytes }
+pub(crate) fn registers_of(bytes: &[u8; BYTES]) -> Registers
     ensures { result ≡ registers_read bytes.now }
 {
     Registers {
@@ -104,8 +72,8 @@ pub(crate) fn registers_of(bytes: &[u8]) -> Registers
         mode: mode_read(bytes),
         entry: entry_read(bytes),
         lights: lights_read(bytes),
-        bus: bus_read(bytes),
+        bus: LineCount::from(bytes[147] == 1),
         half: half_read(bytes),
-        busy: word(bytes[157], bytes[158]),
+        busy: u16::from_be_bytes([bytes[157], bytes[158]]),
     }
 }

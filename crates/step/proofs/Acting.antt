@@ -1,5 +1,6 @@
 -- A whole byte of each kind, from what the code leaves to what the rule says.
 use Prim.Native.Nat.{ℕ}
+use Rattle.std.specs.Prelude.{Ok}
 use lib.Dec.{eqb}
 use lib.ListN.{replicate}
 use mathlib.Core.Bool.{Bool, true, false, cond}
@@ -11,7 +12,7 @@ use Rattle.controller.specs.Part.{awaiting, with}
 use Rattle.controller.specs.Result.{result_of}
 use Rattle.controller.specs.Told.{told_with, addressed}
 use Rattle.controller.specs.declared.Controller.{Controller}
-use Rattle.controller.specs.declared.answer.Answer.{Answer}
+use Rattle.controller.specs.declared.answer.Reply.TheVariants.{Done}
 use Rattle.controller.specs.declared.effect.Effect.{Effect}
 use Rattle.event.specs.declared.Kind.{Kind}
 use Rattle.event.specs.declared.Kind.TheVariants.{InstructionWrite, DataWrite, StatusRead, DataRead}
@@ -21,7 +22,6 @@ use Rattle.instructions.proofs.Rows.{change_by_byte}
 use Rattle.instructions.specs.Instructions.{decode, obey}
 use Rattle.step.specs.Acted.{acted, stepped_to}
 use Rattle.step.specs.Data.{shift_after, status_of, read_of, write_data, read_status, read_data, act}
-use Rattle.step.specs.declared.data.Stepped.{Stepped}
 
 -- ---- an instruction: only the byte 01 changes a memory
 display_cleared : (b : Bool) (d : List ℕ) → cond b (replicate 80 0x20) d ≡ display_after (cond b Change.Clear Change.Nothing) d
@@ -50,22 +50,21 @@ module _ (c : Controller) {k : Kind} (n : ℕ) where
 
   -- ---- data and status, where no half waits any more
   module _ (h : c.registers.half ≡ Half.Nothing) where
-    pub write_acts : {d m : List ℕ} {s : Stepped} → k ≡ DataWrite
+    pub write_acts : {d m : List ℕ} {e : Effect} → k ≡ DataWrite
         → (d ≡ display_after (store_at c.registers.mode.lines c.registers.counter n) c.display) × (m ≡ character_after (store_at c.registers.mode.lines c.registers.counter n) c.character)
-        → s ≡ stepped_to (shift_after c.registers.counter c.registers) c.registers
-        → told_with d m (record { registers = s.registers; answer = Answer.Done 0; wrap = s.wrap }) ≡ acted c k n
+        → e ≡ stepped_to (shift_after c.registers.counter c.registers) 0 c.registers → told_with d m e ≡ acted c k n
     unfolding act write_data
     write_acts f p q = met (λ j. acted c j n) f (rw (p.0, p.1, q, h))
 
     pub status_acts : {v : ℕ} → k ≡ StatusRead → v ≡ answered c.registers.bus (status_of c.registers)
-        → told_with c.display c.character (record { registers = c.registers; answer = Answer.Done v; wrap = false }) ≡ acted c k n
+        → told_with c.display c.character (record { registers = c.registers; answer = Ok (Done v); wrap = false }) ≡ acted c k n
     unfolding act read_status read_of display_after character_after
     status_acts f p = met (λ j. acted c j n) f (λ i. record {
       said = record { number = 0; value = p i; wrap = false };
       controller = with c.display c.character (awaiting c.registers (h i) c.registers.busy);
     })
 
-    pub read_acts : {v : ℕ} {s : Stepped} → k ≡ DataRead → v ≡ answered c.registers.bus (addressed c) → s ≡ stepped_to c.registers.shift c.registers
-        → told_with c.display c.character (record { registers = s.registers; answer = Answer.Done v; wrap = s.wrap }) ≡ acted c k n
+    pub read_acts : {v : ℕ} {e : Effect} → k ≡ DataRead → v ≡ answered c.registers.bus (addressed c) → e ≡ stepped_to c.registers.shift v c.registers
+        → told_with c.display c.character e ≡ acted c k n
     unfolding act read_data read_of display_after character_after
-    read_acts f p q = met (λ j. acted c j n) f (rw (p, q, h))
+    read_acts f p q = met (λ j. acted c j n) f (rw (q, p, h))

@@ -5,6 +5,8 @@ ghost use Rattle.step.specs.Acted.{stepped_to};
 ghost use Rattle.step.specs.Data.{shift_after, status_of};
 
 use controller::Controller;
+use controller::answer::Reply;
+use controller::effect::Effect;
 use controller::registers::Registers;
 use counters::counter::Counter;
 use counters::shift::Shift;
@@ -14,12 +16,10 @@ use counters::shift::Shift;
 pub(crate) fn shift_after(registers: Registers) -> Shift
     ensures { result ≡ shift_after registers.counter registers }
 {
-    let counter = registers.counter;
-    let entry = registers.entry;
-    match counter {
+    match registers.counter {
         Counter::Display(_) => {
-            if entry.shifts {
-                registers.shift_moved(!entry.up)
+            if registers.entry.shifts {
+                registers.shift_moved(!registers.entry.up)
             } else {
                 registers.shift
             }
@@ -28,27 +28,19 @@ pub(crate) fn shift_after(registers: Registers) -> Shift
     }
 }
 
-// The registers behind data, and whether the counter passed an end.
-#[derive(Clone, Copy)]
-pub struct Stepped {
-    pub registers: Registers,
-    pub wrap: bool,
-}
-
-// The counter stepped in the set direction, with the shift that the display then has.
-pub(crate) fn stepped_to(registers: Registers, shift: Shift) -> Stepped
-    ensures { result ≡ stepped_to shift registers }
+// Data is done: this was read, the counter is stepped in the set direction, and this is the shift that the display then has.
+pub(crate) fn stepped_to(registers: Registers, shift: Shift, read: u8) -> Effect
+    ensures { result ≡ stepped_to shift read registers }
 {
-    let entry = registers.entry;
-    let step = registers.counter_stepped(entry.up);
-    let counter = step.counter;
-    Stepped {
+    let step = registers.counter_stepped(registers.entry.up);
+    Effect {
         registers: Registers {
-            counter,
+            counter: step.counter,
             shift,
             busy: Controller::SHORT,
             ..registers
         },
+        answer: Ok(Reply::Done(read)),
         wrap: step.wrap,
     }
 }
@@ -59,8 +51,7 @@ pub(crate) fn status(registers: Registers) -> u8
     requires { has_counter registers.mode.lines registers.counter ≡ true }
     ensures { result ≡ status_of registers }
 {
-    let counter = registers.counter;
-    let address = counter.number();
+    let address = registers.counter.number();
     if registers.busy == 0 {
         address
     } else {

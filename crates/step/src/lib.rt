@@ -11,13 +11,14 @@ ghost use Rattle.step.specs.Step.{refused_busy, stepped};
 mod data;
 mod memory;
 
-use controller::answer::Answer;
+use controller::answer::Reply;
 use controller::effect::Effect;
 use controller::registers::Registers;
 use event::Kind;
 use halves::{Half, answered};
 use instructions::instruction::decode;
 use instructions::obey::obey;
+use refusal::Refusal;
 
 // A whole byte, as on eight lines; no half waits any more.
 #[tactic(auto, using(controller::proofs::Ranged::counter_exists))]
@@ -31,9 +32,10 @@ fn act(
     requires { (in_range registers ≡ true) × (registers.half ≡ Half.Nothing) }
     ensures { told_with display.new character.new result ≡ acted (with display.old character.old registers) kind byte }
 {
+    // One exit, here as in every function of the step: arms that each end in an effect of their own are merged through memory.
     let bus = registers.bus;
     let mut after = registers;
-    let mut answer = Answer::Done(0);
+    let mut answer = Ok(Reply::Done(0));
     let mut wrap = false;
     match kind {
         Kind::InstructionWrite => {
@@ -45,19 +47,20 @@ fn act(
         }
         Kind::DataWrite => {
             memory::store(display, character, registers, byte);
-            let stepped = data::stepped_to(registers, data::shift_after(registers));
-            after = stepped.registers;
-            wrap = stepped.wrap;
+            let effect = data::stepped_to(registers, data::shift_after(registers), 0);
+            after = effect.registers;
+            answer = effect.answer;
+            wrap = effect.wrap;
         }
         Kind::StatusRead => {
-            answer = Answer::Done(answered(bus, data::status(registers)));
+            answer = Ok(Reply::Done(answered(bus, data::status(registers))));
         }
         Kind::DataRead => {
             let read = memory::addressed(&*display, &*character, registers);
-            answer = Answer::Done(answered(bus, read));
-            let stepped = data::stepped_to(registers, registers.shift);
-            after = stepped.registers;
-            wrap = stepped.wrap;
+            let effect = data::stepped_to(registers, registers.shift, answered(bus, read));
+            after = effect.registers;
+            answer = effect.answer;
+            wrap = effect.wrap;
         }
     }
     Effect {
@@ -74,8 +77,7 @@ fn upper_read(display: &[u8; 80], character: &[u8; 64], registers: Registers, ki
     ensures { result ≡ upper (read_from (with display.now character.now registers) kind) * 16 }
 {
     match kind {
-        Kind::InstructionWrite => 0,
-        Kind::DataWrite => 0,
+        Kind::InstructionWrite | Kind::DataWrite => 0,
         Kind::StatusRead => data::status(registers) / 16 * 16,
         Kind::DataRead => memory::addressed(display, character, registers) / 16 * 16,
     }
@@ -107,14 +109,14 @@ pub fn step(
         half: Half::Nothing,
         ..registers
     };
-    let mut answer = Answer::HalvesDisagree;
+    let mut answer = Err(Refusal::HalvesDisagree);
     let mut wrap = false;
     if half.is_first(bus) {
         after = Registers {
             half: Half::of(kind, value),
             ..registers
         };
-        answer = Answer::FirstHalf(upper_read(&*display, &*character, registers, kind));
+        answer = Ok(Reply::FirstHalf(upper_read(&*display, &*character, registers, kind)));
     } else if !half.disagrees(bus, kind) {
         let byte = half.completed(bus, value);
         let effect = act(display, character, after, kind, byte);

@@ -12,19 +12,9 @@ pub(crate) fn addressed(display: &[u8; 80], character: &[u8; 64], registers: Reg
     requires { has_counter registers.mode.lines registers.counter ≡ true }
     ensures { result ≡ byte_at registers.mode.lines registers.counter display.now character.now }
 {
-    let mode = registers.mode;
-    let lines = mode.lines;
-    let counter = registers.counter;
-    match counter {
-        Counter::Display(address) => {
-            let cell = address.cell(lines);
-            let i = cell.0 as usize;
-            display[i]
-        }
-        Counter::Character(address) => {
-            let i = address.0 as usize;
-            character[i]
-        }
+    match registers.counter {
+        Counter::Display(address) => display[address.cell(registers.mode.lines).0 as usize],
+        Counter::Character(address) => character[address.0 as usize],
     }
 }
 
@@ -39,18 +29,12 @@ pub(crate) fn store(
     requires { has_counter registers.mode.lines registers.counter ≡ true }
     ensures { (display.new ≡ display_after (store_at registers.mode.lines registers.counter byte) display.old) × (character.new ≡ character_after (store_at registers.mode.lines registers.counter byte) character.old) }
 {
-    let mode = registers.mode;
-    let lines = mode.lines;
-    let counter = registers.counter;
-    match counter {
+    match registers.counter {
         Counter::Display(address) => {
-            let cell = address.cell(lines);
-            let i = cell.0 as usize;
-            display[i] = byte;
+            display[address.cell(registers.mode.lines).0 as usize] = byte;
         }
         Counter::Character(address) => {
-            let i = address.0 as usize;
-            character[i] = byte;
+            character[address.0 as usize] = byte;
         }
     }
 }

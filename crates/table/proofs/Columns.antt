@@ -18,6 +18,7 @@ use Rattle.text.proofs.Decimal.{digits_below}
 use Rattle.text.specs.Text.{decimal_of, text_of}
 use Rattle.table.specs.Promises.{Narrow}
 use Rattle.table.specs.Table.{spaced, line_of, line_bytes}
+use Rattle.table.specs.declared.line.Line.{Line}
 
 -- ---- numbers with a space behind each
 
@@ -44,29 +45,29 @@ spaced_end numbers place out now next i h a = awaits_none (spaced numbers) place
 
 -- ---- a line
 
-module _ (number kind value answer read wrap : ℕ) (w : Narrow number kind answer wrap) (v : value < 65536) (r : read < 256) where
+module _ (line : Line) (w : Narrow line) (v : line.value < 65536) (r : line.read < 256) where
   abbrev columns : List ℕ
-  columns = spaced (number ∷ kind ∷ value ∷ answer ∷ read ∷ [])
+  columns = spaced (line.number ∷ line.kind ∷ line.value ∷ line.answer ∷ line.read ∷ [])
 
   -- they and the byte behind each are no more than a line has
-  sizes : length columns + length (decimal_of wrap) < line_bytes
+  sizes : length columns + length (decimal_of line.wrap) < line_bytes
   unfolding spaced
   sizes =
       simp length-append
-      (omega (arith, digits_below 3 number w.four, digits_below 0 kind w.one, digits_below 4 value (omega arith), digits_below 1 answer w.two, digits_below 2 read (omega arith), digits_below 0 wrap w.last))
+      (omega (arith, digits_below 3 line.number w.four, digits_below 0 line.kind w.one, digits_below 4 line.value (omega arith), digits_below 1 line.answer w.two, digits_below 2 line.read (omega arith), digits_below 0 line.wrap w.last))
 
   module _ (place : ℕ) (out : List ℕ) (room : place + line_bytes ≤ length out) where
     pub columns_room : place + length columns ≤ length out
     columns_room = omega (arith, sizes)
 
     module _ (next : ℕ) (mid : List ℕ) (p : Puts columns place out next mid) where
-      pub wrap_room : length mid ≡ length out → next + length (decimal_of wrap) < length mid
+      pub wrap_room : length mid ≡ length out → next + length (decimal_of line.wrap) < length mid
       wrap_room long = omega (arith, sizes, p.next)
 
-      pub line_put : (end : ℕ) (left : List ℕ) → Puts (decimal_of wrap ++ text_of "\n") next mid end left → Puts (line_of number kind value answer read wrap) place out end left × (end ≤ place + line_bytes)
+      pub line_put : (end : ℕ) (left : List ℕ) → Puts (decimal_of line.wrap ++ text_of "\n") next mid end left → Puts (line_of line.number line.kind line.value line.answer line.read line.wrap) place out end left × (end ≤ place + line_bytes)
       unfolding line_of
       line_put end left q =
-          (puts_then place next end columns (decimal_of wrap ++ text_of "\n") out mid left (omega arith) p q, omega (arith, sizes, p.next, q.next, length-append (decimal_of wrap) (text_of "\n")))
+          (puts_then place next end columns (decimal_of line.wrap ++ text_of "\n") out mid left (omega arith) p q, omega (arith, sizes, p.next, q.next, length-append (decimal_of line.wrap) (text_of "\n")))
 
 -- the kind of an event is one digit
 kind_number_short : (kind : Kind) → kind_number kind < 10

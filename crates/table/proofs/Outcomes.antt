@@ -3,22 +3,23 @@ use Prim.Native.Nat.{ℕ, ◌≤◌, ◌<◌}
 use borrow.Author.Tests.{lt-ltb, le-ltb, eq-eqb, ne_eqb}
 use lib.ListN.{length}
 use mathlib.Core.List.{List}
-use mathlib.Core.Path.{◌≡◌, sym, ◌∙◌}
-use Rattle.lent.specs.Put.{Puts}
+use mathlib.Core.Path.{◌≡◌, sym}
 use Rattle.record.specs.Record.{most_bytes, check_of}
+use Rattle.refusal.proofs.Settled.{none_is_done}
+use Rattle.refusal.specs.Refusals.{number}
+use Rattle.refusal.specs.declared.Refusal.{Refusal}
 use Rattle.text.specs.Text.{text_of, refused_of}
 use Rattle.table.specs.Table.{table_of, printed_of}
 
-module _ (bytes out : List ℕ) (r : ℕ) (left : List ℕ) where
-  pub prints_too_long : most_bytes < length bytes → Puts (text_of "too long\n") 0 out r left → Puts (printed_of bytes) 0 out r left
+module _ (bytes : List ℕ) where
+  pub printed_long : most_bytes < length bytes → printed_of bytes ≡ text_of "too long\n"
   unfolding printed_of
-  prints_too_long h p = simp (lt-ltb _ _ h) p
+  printed_long h = rw (lt-ltb most_bytes (length bytes) h)
 
-  module _ (n k : ℕ) (e : n ≡ k) (f : k ≡ check_of bytes) where
-    pub prints_refused : length bytes ≤ most_bytes → (n ≡ 0 → ⊥) → Puts (refused_of n) 0 out r left → Puts (printed_of bytes) 0 out r left
-    unfolding printed_of
-    prints_refused h refused p = simp (le-ltb _ _ h, ne_eqb _ _ (λ z. refused (e ∙ f ∙ z))) (rw (e, f) at p)
+  pub printed_refused : (refusal : Refusal) → length bytes ≤ most_bytes → number refusal ≡ check_of bytes → printed_of bytes ≡ refused_of (number refusal)
+  unfolding printed_of
+  printed_refused refusal h e = rw (le-ltb most_bytes (length bytes) h, ← e, ne_eqb (number refusal) 0 (none_is_done refusal))
 
-    pub prints_table : length bytes ≤ most_bytes → n ≡ 0 → Puts (table_of bytes) 0 out r left → Puts (printed_of bytes) 0 out r left
-    unfolding printed_of
-    prints_table h zero p = simp (le-ltb _ _ h, eq-eqb _ _ (sym f ∙ sym e ∙ zero)) p
+  pub printed_sound : length bytes ≤ most_bytes → 0 ≡ check_of bytes → printed_of bytes ≡ table_of bytes
+  unfolding printed_of
+  printed_sound h e = rw (le-ltb most_bytes (length bytes) h, eq-eqb (check_of bytes) 0 (sym e))

@@ -1,11 +1,11 @@
 -- Laws of the lines of events that have been run: event by event, and as the bytes of events and answers give them.
 use Prim.Native.Nat.{ℕ, ◌+◌, ◌*◌, ◌≤◌, ◌<◌}
 use lib.Dec.{T, lit≤}
-use lib.ListN.{length, drop, get_or, drop_of_length-le}
+use lib.ListN.{length, get_or, length-append}
 use mathlib.Core.Bool.{Bool, true, false, ◌&&◌, not}
 use mathlib.Core.List.{List, [], ◌∷◌, ◌++◌}
 use mathlib.Core.Option.{Option, none, some}
-use mathlib.Core.Path.{◌≡◌, refl}
+use mathlib.Core.Path.{◌≡◌, refl, ap}
 use native.Mathlib.Omega.{arith}
 use Rattle.bus.proofs.Numbers.{transfer_given_exactly, wait_given_exactly}
 use Rattle.bus.specs.Events.{told_by, said_by}
@@ -18,7 +18,6 @@ use Rattle.event.specs.declared.Event.TheVariants.{Transfer, Wait}
 use Rattle.lent.proofs.Placed.{Awaits, awaits_none, awaits_more}
 use Rattle.lent.specs.Put.{Puts}
 use Rattle.record.proofs.Encoded.{event_means}
-use Rattle.record.proofs.FrontEvents.{drop_three}
 use Rattle.record.specs.Event.{event_of, word_of}
 use Rattle.record.specs.Record.{before, front_events}
 use Rattle.run.specs.Run.{answer_bytes}
@@ -80,28 +79,41 @@ module _ (behind : List ℕ) where
 
 -- ---- one line more
 
-module _ (events answers : List ℕ) (from : ℕ) (fits : from + 3 ≤ length events) (answered : from + 3 ≤ length answers) where
-  pub narrow_on : AllNarrow (drop from events) (drop from answers)
-      → (get_or events from 0 < 10) × (get_or answers from 0 < 100) × (get_or answers (from + 2) 0 < 10) × AllNarrow (drop (from + 3) events) (drop (from + 3) answers)
+three_of : (three more : List ℕ) → length three ≡ 3 → three ++ more ≡ get_or three 0 0 ∷ get_or three 1 0 ∷ get_or three 2 0 ∷ more
+three_of [] more e = absurd (omega arith)
+three_of (a ∷ []) more e = absurd (omega arith)
+three_of (a ∷ b ∷ []) more e = absurd (omega arith)
+three_of (a ∷ b ∷ c ∷ []) more e = refl
+three_of (a ∷ b ∷ c ∷ d ∷ three) more e = absurd (omega arith)
+
+module _ (event answer events answers : List ℕ) (here there : List ℕ) (e : here ≡ event ++ events) (a : there ≡ answer ++ answers) (long : length event ≡ 3) (wide : length answer ≡ 3) where
+  pub three_less : (length here ≡ length events + 3) × (length there ≡ length answers + 3)
+  three_less = (omega (arith, ap length e, length-append event events), omega (arith, ap length a, length-append answer answers))
+
+  pub narrow_on : AllNarrow here there → (get_or event 0 0 < 10) × (get_or answer 0 0 < 100) × (get_or answer 2 0 < 10) × AllNarrow events answers
   unfolding AllNarrow
-  narrow_on n = rw (drop_three events from fits, drop_three answers from answered) at n
+  narrow_on n = rw (e, a, three_of event events long, three_of answer answers wide) at n
 
   abbrev line_here : ℕ → List ℕ
-  line_here number =
-      line_of number (get_or events from 0) (word_of (get_or events (from + 1) 0) (get_or events (from + 2) 0)) (get_or answers from 0) (get_or answers (from + 1) 0) (get_or answers (from + 2) 0)
+  line_here number = line_of number (get_or event 0 0) (word_of (get_or event 1 0) (get_or event 2 0)) (get_or answer 0 0) (get_or answer 1 0) (get_or answer 2 0)
 
-  lines_on : (number : ℕ) → lines_of number (drop from events) (drop from answers) ≡ line_here number ++ lines_of (number + 1) (drop (from + 3) events) (drop (from + 3) answers)
+  lines_on : (number : ℕ) → lines_of number here there ≡ line_here number ++ lines_of (number + 1) events answers
   unfolding lines_of
-  lines_on number = rw (drop_three events from fits, drop_three answers from answered) refl
+  lines_on number = rw (e, a, three_of event events long, three_of answer answers wide) refl
 
-  pub lines_turn : (number next : ℕ) (now text : List ℕ) (place : ℕ) (out : List ℕ) → Awaits (lines_of number (drop from events) (drop from answers)) next now text place out
-      → next ≤ length now → (then : ℕ) (left : List ℕ) → Puts (line_here number) next now then left
-      → Awaits (lines_of (number + 1) (drop (from + 3) events) (drop (from + 3) answers)) then left text place out
-  lines_turn number next now text place out a =
-      awaits_more text place out (line_here number) (lines_of (number + 1) (drop (from + 3) events) (drop (from + 3) answers)) next now (rw (lines_on number) at a)
+  pub lines_turn : (number next : ℕ) (now text : List ℕ) (place : ℕ) (out : List ℕ) → Awaits (lines_of number here there) next now text place out
+      → next ≤ length now → (then : ℕ) (left : List ℕ) → Puts (line_here number) next now then left → Awaits (lines_of (number + 1) events answers) then left text place out
+  lines_turn number next now text place out w =
+      awaits_more text place out (line_here number) (lines_of (number + 1) events answers) next now (rw (lines_on number) at w)
 
 -- no event is left
-pub lines_end : (events answers : List ℕ) (from number next : ℕ) (now text : List ℕ) (place : ℕ) (out : List ℕ) → length events ≤ from
-    → Awaits (lines_of number (drop from events) answers) next now text place out → Puts text place out next now
+no_lines : (number : ℕ) (events answers : List ℕ) → length events < 3 → lines_of number events answers ≡ []
 unfolding lines_of
-lines_end events answers from number next now text place out h a = awaits_none text place out next now (rw (drop_of_length-le events h) at a)
+no_lines number [] answers h = refl
+no_lines number (kind ∷ []) answers h = refl
+no_lines number (kind ∷ high ∷ []) answers h = refl
+no_lines number (kind ∷ high ∷ low ∷ events) answers h = absurd (omega arith)
+
+pub lines_end : (number : ℕ) (events answers : List ℕ) (next : ℕ) (now text : List ℕ) (place : ℕ) (out : List ℕ) → length events < 3
+    → Awaits (lines_of number events answers) next now text place out → Puts text place out next now
+lines_end number events answers next now text place out h w = awaits_none text place out next now (rw (no_lines number events answers h) at w)

@@ -3,13 +3,14 @@ use Rattle.std.specs.Prelude.{ℕ, ◌+◌, ◌*◌, ◌%◌, ◌≤◌, ◌<◌
 use Rattle.record.specs.Event.{word_of}
 use Rattle.record.specs.Record.{most_events}
 use Rattle.table.specs.Table.{line_of}
+use Rattle.table.specs.declared.line.Line.{Line}
 
 -- at most 4, 1, 2 and 1 digits; the two columns beside them are 16 bits and a byte, at most 5 and 3. With the byte behind each they are `line_bytes`
-pub record Narrow (number kind answer wrap : ℕ) : Type 0 where
-  pub four : number < 10000
-  pub one : kind < 10
-  pub two : answer < 100
-  pub last : wrap < 10
+pub record Narrow (line : Line) : Type 0 where
+  pub four : line.number < 10000
+  pub one : line.kind < 10
+  pub two : line.answer < 100
+  pub last : line.wrap < 10
 
 -- a line for each event of a list: its three bytes, and the three of its answer
 unfoldable pub lines_of : (number : ℕ) → (events answers : List ℕ) → List ℕ

@@ -16,29 +16,35 @@ fn put_spaced(numbers: &[u16], place: usize, out: &mut [u8]) -> usize
     ensures { Puts (spaced numbers.now) place out.old result out.new }
 {
     let mut next = place;
-    let mut i = 0;
-    while i < numbers.len() {
-        next = put_number(numbers[i], b' ', next, out);
-        i += 1;
+    for &number in numbers {
+        next = put_number(number, b' ', next, out);
     }
     next
 }
 
+// An event by its number, and what it was answered.
+#[derive(Clone, Copy)]
+pub(crate) struct Line {
+    pub number: u16,
+    pub kind: u8,
+    pub value: u16,
+    pub answer: u8,
+    pub read: u8,
+    pub wrap: u8,
+}
+
 #[tactic(auto, using(crate::proofs::Columns::wrap_room))]
-pub(crate) fn put_line(
-    number: u16,
-    kind: u8,
-    value: u16,
-    answer: u8,
-    read: u8,
-    wrap: u8,
-    place: usize,
-    out: &mut [u8],
-) -> usize
-    requires { Narrow number kind answer wrap × (place + line_bytes ≤ length out.old) }
-    ensures { Puts (line_of number kind value answer read wrap) place out.old result out.new × (result ≤ place + line_bytes) }
+pub(crate) fn put_line(line: Line, place: usize, out: &mut [u8]) -> usize
+    requires { Narrow line × (place + line_bytes ≤ length out.old) }
+    ensures { Puts (line_of line.number line.kind line.value line.answer line.read line.wrap) place out.old result out.new × (result ≤ place + line_bytes) }
 {
-    let columns = [number, kind as u16, value, answer as u16, read as u16];
+    let columns = [
+        line.number,
+        line.kind as u16,
+        line.value,
+        line.answer as u16,
+        line.read as u16,
+    ];
     let next = put_spaced(&columns, place, out);
-    put_number(wrap as u16, b'\n', next, out)
+    put_number(line.wrap as u16, b'\n', next, out)
 }

@@ -17,6 +17,7 @@ fn put_table(bytes: &[u8], out: &mut [u8]) -> usize
     put_lines(bytes, next, out)
 }
 
+#[tactic(auto, using(crate::proofs::Outcomes::printed_long, crate::proofs::Outcomes::printed_refused, crate::proofs::Outcomes::printed_sound))]
 pub(crate) fn put_printed(bytes: &[u8], out: &mut [u8]) -> usize
     requires { most_text ≤ length out.old }
     ensures { Puts (printed_of bytes.now) 0 out.old result out.new }
@@ -24,9 +25,8 @@ pub(crate) fn put_printed(bytes: &[u8], out: &mut [u8]) -> usize
     if record::MOST_BYTES < bytes.len() {
         return put_text(b"too long\n", 0, out);
     }
-    let refused = record::check(bytes).number();
-    if refused != 0 {
-        return put_refused(refused, out);
+    match record::check(bytes) {
+        Ok(()) => put_table(bytes, out),
+        Err(refusal) => put_refused(u8::from(refusal), out),
     }
-    put_table(bytes, out)
 }

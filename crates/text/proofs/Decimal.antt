@@ -1,9 +1,10 @@
 -- Laws of decimal digits.
 use Prim.Native.Char.{code}
 use Prim.Native.Nat.{ℕ, zero, suc, ◌+◌, ◌*◌, ◌-◌, ◌/◌, ◌%◌, ◌^◌, ◌≤◌, ◌<◌}
+use Rattle.std.specs.Prelude.{Option, Some, None, IfSome, IfNone, unwrap_or}
 use borrow.Author.Tests.{ltb-true, ltb-false, lt-ltb, le-ltb}
 use lib.Dec.{ltb}
-use lib.ListN.{length, set, length-append}
+use lib.ListN.{length, set, length-append, length-set}
 use mathlib.Core.Bool.{Bool, true, false, cond}
 use mathlib.Core.List.{List, [], ◌∷◌, ◌++◌}
 use mathlib.Core.Path.{◌≡◌, refl, ap, ◌∙◌}
@@ -65,21 +66,57 @@ digits_from (suc k) n h =
     (λ small. absurd (omega (arith, one-le-pow k 10 (omega arith))))
     (λ large. omega (arith, more_digits n large, digits_from k (n / 10) (omega arith)))
 
-pub digits_are : (k n : ℕ) → 10 ^ suc k ≤ n → n < 10 ^ suc (suc k) → suc (suc k) ≡ length (decimal_of n)
-digits_are k n h h' = omega (arith, digits_below (suc k) n h', digits_from (suc k) n h)
+digits_are : (k n : ℕ) → 10 ^ k ≤ n → n < 10 * 10 ^ k → k + 1 ≡ length (decimal_of n)
+digits_are k n h h' =
+    let within : n < 10 ^ suc k = omega arith in
+    omega (arith, digits_below k n within, digits_from k n h)
+
+-- by the greatest power of ten that is no more than the number
+pub digits_counted : (n : ℕ) (power : Option ℕ) → IfNone power (n ≡ 0) → IfSome power (λ k. 10 ^ k ≤ n) → IfSome power (λ k. n < 10 * 10 ^ k) → unwrap_or power 0 + 1 ≡ length (decimal_of n)
+digits_counted n None z h h' = omega (arith, one_digit n (omega arith))
+digits_counted n (Some k) z h h' = digits_are k n h h'
 
 -- ---- digits put from the last to the first
 
-pub digit_turn : (place n : ℕ) (out : List ℕ) (last : ℕ) → 10 ≤ n → place + length (decimal_of n) ≡ last + 1 → last < length out
-    → put_at place (decimal_of (n / 10)) (set out last (digit_of (n % 10))) ≡ put_at place (decimal_of n) out
-digit_turn place n out last h e room =
-    let here : last ≡ place + length (decimal_of (n / 10)) = omega (arith, more_digits n h) in
-    rw (here, decimal_large n) (put_before place (decimal_of (n / 10)) (digit_of (n % 10)) out (omega arith))
+-- what is missing of a number's digits: those of the rest, up to `last`
+pub record Missing (n place : ℕ) (out : List ℕ) (last rest : ℕ) (now : List ℕ) : Type 0 where
+  pub within : place ≤ last
+  pub room : last ≤ length now
+  pub counted : place < last → last ≡ place + length (decimal_of rest)
+  pub some : place < last → put_at place (decimal_of rest) now ≡ put_at place (decimal_of n) out
+  pub none : last ≤ place → now ≡ put_at place (decimal_of n) out
 
-pub digit_last : (place n : ℕ) (out : List ℕ) → n < 10 → place < length out → set out place (digit_of (n % 10)) ≡ put_at place (decimal_of n) out
-digit_last place n out h room =
-    let own : n % 10 ≡ n = omega arith in
-    rw (own, decimal_small n) (put_one place (digit_of n) out room)
+module _ (n place : ℕ) (out : List ℕ) (last rest : ℕ) (now : List ℕ) (missing : Missing n place out last rest now) (more : place < last) where
+  first_digit : rest < 10 → Missing n place out (last - 1) (rest / 10) (set now (last - 1) (digit_of (rest % 10)))
+  first_digit small =
+      let own : rest % 10 ≡ rest = omega arith in
+      let here : last - 1 ≡ place = omega (arith, missing.counted more, one_digit rest small) in
+      let room : place < length now = omega (arith, missing.room) in
+      let put : set now (last - 1) (digit_of (rest % 10)) ≡ put_at place (decimal_of n) out = rw (here, own) (put_one place (digit_of rest) now room ∙ rw (decimal_small rest small) at missing.some more) in
+      record {
+        within = omega arith;
+        room = rw (length-set now (last - 1) (digit_of (rest % 10))) (omega (arith, missing.room));
+        counted = λ l. absurd (omega arith);
+        some = λ l. absurd (omega arith);
+        none = λ l. put;
+      }
+
+  next_digit : 10 ≤ rest → Missing n place out (last - 1) (rest / 10) (set now (last - 1) (digit_of (rest % 10)))
+  next_digit large =
+      let here : last - 1 ≡ place + length (decimal_of (rest / 10)) = omega (arith, missing.counted more, more_digits rest large) in
+      let room : place + length (decimal_of (rest / 10)) < length now = omega (arith, missing.room) in
+      let put : put_at place (decimal_of (rest / 10)) (set now (last - 1) (digit_of (rest % 10))) ≡ put_at place (decimal_of n) out =
+      rw here (put_before place (decimal_of (rest / 10)) (digit_of (rest % 10)) now room ∙ rw (decimal_large rest large) at missing.some more) in
+      record {
+        within = omega arith;
+        room = rw (length-set now (last - 1) (digit_of (rest % 10))) (omega (arith, missing.room));
+        counted = λ l. here;
+        some = λ l. put;
+        none = λ l. absurd (omega (arith, digits_from 0 (rest / 10)));
+      }
+
+  pub missing_next : Missing n place out (last - 1) (rest / 10) (set now (last - 1) (digit_of (rest % 10)))
+  missing_next = by_size (λ m. m ≡ rest → Missing n place out (last - 1) (rest / 10) (set now (last - 1) (digit_of (rest % 10)))) rest (λ small e. first_digit small) (λ large e. next_digit large) refl
 
 -- ---- what the digits say
 

@@ -5,38 +5,24 @@ ghost use Rattle.std.specs.Prelude.{◌+◌, ◌%◌, ◌≤◌, ◌<◌, length
 ghost use Rattle.lent.specs.Put.{Puts};
 ghost use Rattle.text.specs.Text.{digit_of, decimal_of, refused_of};
 
-// All bytes of a text.
-#[tactic(auto, using(lent::proofs::Placed::put_turn, lent::proofs::Placed::put_all, lent::proofs::Placed::put_none))]
+// All bytes of a text. A place and a buffer are two parameters, here and wherever bytes are put: a struct that held the lent slice
+// would have to promise at each call that it is the same slice and as long.
+#[tactic(auto, unfolding(lent::specs::Put::put_at))]
 pub fn put_text(text: &[u8], place: usize, out: &mut [u8]) -> usize
     requires { place + length text.now ≤ length out.old }
     ensures { Puts text.now place out.old result out.new }
 {
-    let mut i = 0;
-    while i < text.len() {
-        out[place + i] = text[i];
-        i += 1;
-    }
-    place + i
+    let end = place + text.len();
+    out[place..end].copy_from_slice(text);
+    end
 }
 
 // How many digits a number has.
-#[tactic(auto, using(crate::proofs::Decimal::one_digit))]
+#[tactic(auto, using(crate::proofs::Decimal::digits_counted))]
 pub fn digit_count(n: u16) -> usize
     ensures { (result ≡ length (decimal_of n)) × (1 ≤ result) × (result ≤ 5) }
 {
-    if n < 10 {
-        return 1;
-    }
-    if n < 100 {
-        return 2;
-    }
-    if n < 1000 {
-        return 3;
-    }
-    if n < 10000 {
-        return 4;
-    }
-    5
+    n.checked_ilog10().unwrap_or(0) as usize + 1
 }
 
 // The character of a number's last digit.
@@ -47,20 +33,16 @@ fn digit(n: u16) -> u8
 }
 
 // The digits of a number, the last one first.
-#[tactic(auto, using(crate::proofs::Decimal::one_digit, crate::proofs::Decimal::digit_last))]
 fn put_decimal(n: u16, place: usize, out: &mut [u8]) -> usize
     requires { place + length (decimal_of n) ≤ length out.old }
     ensures { Puts (decimal_of n) place out.old result out.new }
 {
     let end = place + digit_count(n);
-    let mut last = end - 1;
     let mut rest = n;
-    while 10 <= rest {
+    for last in (place..end).rev() {
         out[last] = digit(rest);
-        last -= 1;
         rest /= 10;
     }
-    out[place] = digit(rest);
     end
 }
 
@@ -89,5 +71,5 @@ pub fn put_refused(number: u8, out: &mut [u8]) -> usize
     requires { 12 ≤ length out.old }
     ensures { Puts (refused_of number) 0 out.old result out.new }
 {
-    put_named(b"refused ", number as u16, b'\n', 0, out)
+    put_named(b"refused ", u16::from(number), b'\n', 0, out)
 }

@@ -1,44 +1,51 @@
 -- Laws of the voltages given to C.
 use Prim.Native.Nat.{ℕ}
+use Rattle.std.specs.Prelude.{Result, Ok, Err}
 use lib.Dec.{eqb}
 use lib.Ieee.{Float}
+use lib.ListN.{length}
 use mathlib.Core.Bool.{Bool, true, false, cond}
 use mathlib.Core.List.{List}
-use mathlib.Core.Path.{◌≡◌, sym, ap, ◌∙◌}
-use native.Mathlib.Omega.{arith}
+use mathlib.Core.Path.{◌≡◌, refl, ap, ◌∙◌}
 use Rattle.condition.specs.First.{first_of}
-use Rattle.voltages.specs.Answers.{number_of, refusals, answer_of}
-use Rattle.voltages.specs.Voltages.{step_of, divisor_of, steps_of}
-use Rattle.voltages.specs.declared.Answer.{Answer}
-use Rattle.voltages.specs.declared.Answer.TheVariants.{Done, BadVdd, BadSpan}
+use Rattle.refusal.specs.Refusals.{number, number_of}
+use Rattle.refusal.specs.declared.Refusal.{Refusal}
+use Rattle.refusal.specs.declared.Refusal.TheVariants.{BadVdd, BadSpan}
+use Rattle.voltages.specs.Answers.{refusals, answer_of}
+use Rattle.voltages.specs.Voltages.{drive_of, step_for, steps_of}
 use Rattle.voltages.specs.declared.Bias.{Bias}
 use Rattle.voltages.specs.declared.Bias.TheVariants.{Quarter, Fifth}
 use Rattle.voltages.specs.declared.Steps.{Steps}
-use Rattle.voltages.specs.declared.Steps.TheVariants as kind
-use Rattle.trestlecap.specs.Called.{listed_or, Driving}
+use Rattle.trestlecap.specs.Called.{listed, listed_or, Driving}
+use Rattle.trestlecap.specs.Promises.{voltage_count}
 
-pub driven : (vdd span : ℕ) (bias : Bias) (volts : List Float) (answer told : Answer) (n : ℕ) (left : List Float) → answer ≡ answer_of vdd span bias → answer ≡ told
-    → n ≡ number_of told → left ≡ listed_or volts told → Driving vdd span bias volts n left
-driven vdd span bias volts answer told n left e f number buffer =
-    record { number = number ∙ ap number_of (sym f ∙ e); buffer = buffer ∙ ap (listed_or volts) (sym f ∙ e) }
+module _ (vdd span : ℕ) (bias : Bias) where
+  pub driven : (steps : Steps) → Ok steps ≡ answer_of (drive_of vdd span bias) → (volts : List Float) → Driving vdd span bias volts 0 (listed steps)
+  driven steps e volts = record { number = ap number_of e; buffer = ap (listed_or volts) e }
+
+  pub not_driven : (refusal : Refusal) → Err refusal ≡ answer_of (drive_of vdd span bias) → (volts : List Float) → Driving vdd span bias volts (number refusal) volts
+  not_driven refusal e volts = record { number = ap number_of e; buffer = ap (listed_or volts) e }
 
 -- ---- quarter bias has three voltages, fifth bias four
 
-abbrev count : Answer → ℕ
-count (Done (kind.Quarter v1 v2 v4)) = 3
-count (Done (kind.Fifth v1 v2 v3 v4)) = 4
-count BadVdd = 0
-count BadSpan = 0
+count_of : (n : ℕ) → Result Steps Refusal → ℕ
+count_of n (Ok steps) = length (listed steps)
+count_of n (Err refusal) = n
 
-other_count : (b d : Bool) (steps : Steps) (n : ℕ) → count (cond b BadVdd (cond d BadSpan (Done steps))) ≡ n → (n ≡ 0 → ⊥) → (count (Done steps) ≡ n → ⊥) → ⊥
-other_count true d steps n e z f = z (sym e)
-other_count false true steps n e z f = z (sym e)
-other_count false false steps n e z f = f e
+counted : (b d : Bool) (steps : Steps) → count_of (length (listed steps)) (cond b (Err BadVdd) (cond d (Err BadSpan) (Ok steps))) ≡ length (listed steps)
+unfolding count_of
+counted true d steps = refl
+counted false true steps = refl
+counted false false steps = refl
 
-pub quarter_has_three : (vdd span : ℕ) (v1 v2 v3 v4 : Float) → Done (kind.Fifth v1 v2 v3 v4) ≡ answer_of vdd span Quarter → ⊥
-unfolding answer_of
-quarter_has_three vdd span v1 v2 v3 v4 e = other_count (eqb (first_of (refusals vdd span) 0) 21) (eqb (first_of (refusals vdd span) 0) 22) (steps_of (step_of (divisor_of Quarter) vdd span) Quarter) 4 (ap count (sym e)) (λ z. omega arith) (λ z. omega arith)
+own_count : (vdd span : ℕ) (bias : Bias) → length (listed (steps_of (step_for (drive_of vdd span bias)) bias)) ≡ voltage_count bias
+own_count vdd span Quarter = refl
+own_count vdd span Fifth = refl
 
-pub fifth_has_four : (vdd span : ℕ) (v1 v2 v4 : Float) → Done (kind.Quarter v1 v2 v4) ≡ answer_of vdd span Fifth → ⊥
-unfolding answer_of
-fifth_has_four vdd span v1 v2 v4 e = other_count (eqb (first_of (refusals vdd span) 0) 21) (eqb (first_of (refusals vdd span) 0) 22) (steps_of (step_of (divisor_of Fifth) vdd span) Fifth) 3 (ap count (sym e)) (λ z. omega arith) (λ z. omega arith)
+pub step_count : (vdd span : ℕ) (bias : Bias) (steps : Steps) → Ok steps ≡ answer_of (drive_of vdd span bias) → length (listed steps) ≡ voltage_count bias
+unfolding answer_of count_of
+step_count vdd span bias steps e =
+    let drive = drive_of vdd span bias in
+    let all : Steps = steps_of (step_for drive) bias in
+    let first = first_of (refusals drive) 0 in
+    ap (count_of (length (listed all))) e ∙ counted (eqb first 21) (eqb first 22) all ∙ own_count vdd span bias

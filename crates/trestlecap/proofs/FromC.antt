@@ -1,9 +1,9 @@
 -- The list from C is `run_list`, and a refused call writes nothing.
 use Prim.Native.Nat.{ℕ}
+use Rattle.std.specs.Prelude.{Option, None, Some}
 use borrow.Author.Tests.{ne_eqb}
 use lib.ListN.{length}
 use mathlib.Core.List.{List}
-use mathlib.Core.Option.{Option, none, some}
 use mathlib.Core.Path.{◌≡◌, refl, sym, ap, ◌∙◌}
 use Rattle.bedside.specs.Panel.{call_wraps}
 use Rattle.bedside.specs.Refusals.{call_answer}
@@ -20,9 +20,9 @@ use Rattle.trestlecap.specs.Theorems.{ListFromC, RefusedListWritesNothing, Refus
 use Rattle.trestlecap.proofs.Refused.{refused_call, refused_restart}
 
 -- bytes of which none is held are not taken
-not_taken : (state : List ℕ) (found : Option Controller) → taken_of state ≡ found → ((c : Controller) → Held state c → ⊥) → taken_of state ≡ none
-not_taken state none e never = e
-not_taken state (some c) e never = absurd (never c (taken_held state c e))
+not_taken : (state : List ℕ) (found : Option Controller) → taken_of state ≡ found → ((c : Controller) → Held state c → ⊥) → taken_of state ≡ None
+not_taken state None e never = e
+not_taken state (Some c) e never = absurd (never c (taken_held state c e))
 
 pub list_from_c : ListFromC
 unfolding number_on state_on buffer_on
@@ -39,13 +39,13 @@ list_from_c state events answers r left out p = (
 
 refused_state : (number : Controller → ℕ) (left : Controller → Controller) → ((k : Controller) → (number k ≡ 0 → ⊥) → left k ≡ k) → (state : List ℕ) (found : Option Controller) → taken_of state ≡ found
     → (of_held 16 number found ≡ 0 → ⊥) → of_held state (λ c. put_of (left c)) found ≡ state
-refused_state number left refused state none e z = refl
-refused_state number left refused state (some c) e z = ap put_of (refused c z) ∙ sym (taken_put state c e)
+refused_state number left refused state None e z = refl
+refused_state number left refused state (Some c) e z = ap put_of (refused c z) ∙ sym (taken_put state c e)
 
 refused_buffer : (number : Controller → ℕ) (buffer : Controller → List ℕ) (out : List ℕ) → ((k : Controller) → (number k ≡ 0 → ⊥) → buffer k ≡ out) → (found : Option Controller)
     → (of_held 16 number found ≡ 0 → ⊥) → of_held out buffer found ≡ out
-refused_buffer number buffer out refused none z = refl
-refused_buffer number buffer out refused (some c) z = refused c z
+refused_buffer number buffer out refused None z = refl
+refused_buffer number buffer out refused (Some c) z = refused c z
 
 pub refused_list_writes_nothing : RefusedListWritesNothing
 unfolding number_on state_on buffer_on
@@ -67,5 +67,5 @@ refused_call_writes_nothing state call characters wrap r left wrap' p z = (
   where
     refused_said : (found : Option Controller) → (of_held 16 (λ c. call_answer c call (length characters)) found ≡ 0 → ⊥)
         → of_held wrap (λ c. said_or (call_answer c call (length characters)) wrap (flag_number (call_wraps c call characters))) found ≡ wrap
-    refused_said none y = refl
-    refused_said (some c) y = rw (ne_eqb (call_answer c call (length characters)) 0 y) refl
+    refused_said None y = refl
+    refused_said (Some c) y = rw (ne_eqb (call_answer c call (length characters)) 0 y) refl

@@ -1,7 +1,8 @@
 pub mod Held
 pub mod Refused
-pub mod Made
-pub mod Found
+pub mod OnBoard
+pub mod Panel
+pub mod Pictured
 pub mod Driven
 pub mod Mended
 pub mod FromC

@@ -1,6 +1,5 @@
 -- 7/12: "called from the masker's C firmware on numbers and byte slices": what each exported call promises.
-use Rattle.std.proofs.Math.Option.{Option, none, some}
-use Rattle.std.specs.Prelude.{ℕ, eqb, Float, length, replicate, cond, List, [], ◌∷◌, ◌≡◌}
+use Rattle.std.specs.Prelude.{ℕ, eqb, Float, length, replicate, cond, List, Option, None, Some, Result, Ok, Err, ◌≡◌}
 use Rattle.bedside.specs.Log.{look_up_answer, figure_of}
 use Rattle.bedside.specs.Panel.{call_leaves, call_wraps}
 use Rattle.bedside.specs.Refusals.{call_answer}
@@ -14,12 +13,13 @@ use Rattle.lent.specs.Buffer.{unless_refused}
 use Rattle.list.specs.List.{answer_for as list_answer, left_for, buffer_for as list_buffer}
 use Rattle.mending.specs.Mend.{mend_of, mended_of, told_of}
 use Rattle.picture.specs.Answers.{answer_for as picture_answer, buffer_for as picture_buffer}
+use Rattle.refusal.specs.Refusals.{number_of}
+use Rattle.refusal.specs.declared.Refusal.{Refusal}
 use Rattle.restart.specs.Writes.{restart_of}
 use Rattle.state.specs.State.{put_of}
 use Rattle.state.specs.Taken.{answer_for as put_answer, taken_of}
-use Rattle.voltages.specs.Answers.{number_of, answer_of}
-use Rattle.voltages.specs.declared.Answer.{Answer}
-use Rattle.voltages.specs.declared.Answer.TheVariants.{Done, BadVdd, BadSpan}
+use Rattle.voltages.specs.Answers.{answer_of}
+use Rattle.voltages.specs.Voltages.{drive_of}
 use Rattle.voltages.specs.declared.Bias.{Bias}
 use Rattle.voltages.specs.declared.Steps.{Steps}
 use Rattle.voltages.specs.declared.Steps.TheVariants.{Quarter, Fifth}
@@ -28,8 +28,8 @@ use Rattle.voltages.specs.declared.Steps.TheVariants.{Quarter, Fifth}
 
 -- of the controller that the bytes hold; of bytes that hold none, what a refusal says or leaves
 abbrev pub of_held : {A : Type 0} → (refused : A) → (Controller → A) → Option Controller → A
-of_held refused held none = refused
-of_held refused held (some c) = held c
+of_held refused held None = refused
+of_held refused held (Some c) = held c
 
 -- "16, also for bytes that no controller in range is put as"
 unfoldable pub number_on : (Controller → ℕ) → (state : List ℕ) → ℕ
@@ -76,12 +76,12 @@ pub record MakingCall (state : List ℕ) (call : Call) (characters : List ℕ) (
 
 -- written or not yet, as 1 or 0; the figure, or 0
 abbrev pub written_of : Option ℕ → ℕ
-written_of none = 0
-written_of (some figure) = 1
+written_of None = 0
+written_of (Some figure) = 1
 
 abbrev pub quarters_of : Option ℕ → ℕ
-quarters_of none = 0
-quarters_of (some figure) = figure
+quarters_of None = 0
+quarters_of (Some figure) = figure
 
 -- a refused look-up leaves the number behind the pointer
 abbrev pub found_or : ℕ → (Option ℕ → ℕ) → (night : ℕ) → Controller → ℕ
@@ -105,17 +105,16 @@ pub record Picturing (state : List ℕ) (digits : ℕ) (rom : List ℕ) (dark : 
 -- ---- the drive voltages
 
 abbrev pub listed : Steps → List Float
-listed (Quarter v1 v2 v4) = v1 ∷ v2 ∷ v4 ∷ []
-listed (Fifth v1 v2 v3 v4) = v1 ∷ v2 ∷ v3 ∷ v4 ∷ []
+listed (Quarter steps) = steps
+listed (Fifth steps) = steps
 
-abbrev pub listed_or : List Float → Answer → List Float
-listed_or was (Done steps) = listed steps
-listed_or was BadVdd = was
-listed_or was BadSpan = was
+abbrev pub listed_or : List Float → Result Steps Refusal → List Float
+listed_or was (Ok steps) = listed steps
+listed_or was (Err refusal) = was
 
 pub record Driving (vdd span : ℕ) (bias : Bias) (volts : List Float) (r : ℕ) (left : List Float) : Type 0 where
-  pub number : r ≡ number_of (answer_of vdd span bias)
-  pub buffer : left ≡ listed_or volts (answer_of vdd span bias)
+  pub number : r ≡ number_of (answer_of (drive_of vdd span bias))
+  pub buffer : left ≡ listed_or volts (answer_of (drive_of vdd span bias))
 
 -- ---- a record mended
 

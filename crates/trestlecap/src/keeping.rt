@@ -1,18 +1,16 @@
 // A controller put back where it was taken from.
-ghost use Rattle.std.specs.Prelude.{eqb, length, cond, ◌≡◌};
+ghost use Rattle.std.specs.Prelude.{length, ◌≡◌};
+ghost use Rattle.refusal.specs.Refusals.{number_of};
 ghost use Rattle.state.specs.State.{state_bytes, put_of};
 
 use controller::Controller;
+use refusal::Refusal;
 use state::put;
 
-// Unless its call was refused; the number is handed on.
-#[tactic(auto, using(crate::proofs::Held::left_alone))]
-pub(crate) fn keep(number: u8, controller: Controller, state: &mut [u8]) -> u8
+// Never refused, since bytes that hold a controller have room for one.
+pub(crate) fn keep(controller: Controller, state: &mut [u8]) -> Result<(), Refusal>
     requires { length state.old ≡ state_bytes }
-    ensures { (result ≡ number) × (state.new ≡ cond (eqb number 0) (put_of controller) state.old) }
+    ensures { (number_of result ≡ 0) × (state.new ≡ put_of controller) }
 {
-    if number == 0 {
-        put(controller, state);
-    }
-    number
+    put(controller, state)
 }

@@ -1,27 +1,21 @@
 // The picture.
-ghost use Rattle.std.specs.Prelude.{◌≡◌};
-ghost use Rattle.trestlecap.specs.Called.{phase_of, Picturing};
+ghost use Rattle.refusal.specs.Refusals.{number_of};
+ghost use Rattle.trestlecap.specs.Called.{Picturing};
 
 use dots::Phase;
 use picture::picture;
+use refusal::{Refusal, number_of};
 use state::take;
 
-// 0 is plain.
-fn phase(dark: u8) -> Phase
-    ensures { result ≡ phase_of dark }
+// A dark of 0 is plain.
+fn shown(state: &[u8], digits: u8, rom: &[u8], dark: u8, out: &mut [u8]) -> Result<(), Refusal>
+    ensures { Picturing state.now digits rom.now dark out.old (number_of result) out.new }
 {
-    if dark == 0 { Phase::Plain } else { Phase::Dark }
+    picture(take(state)?, digits, rom, Phase::from(dark != 0), out)
 }
 
-#[tactic(auto, using(crate::proofs::Held::none_held, crate::proofs::Held::sixteen, crate::proofs::Held::number_none, crate::proofs::Held::buffer_none))]
 pub fn trestlecap_picture(state: &[u8], digits: u8, rom: &[u8], dark: u8, out: &mut [u8]) -> u8
     ensures { Picturing state.now digits rom.now dark out.old result out.new }
 {
-    let taken = take(state);
-    let answer = taken.answer;
-    let refused = answer.number();
-    if refused != 0 {
-        return refused;
-    }
-    picture(taken.controller, digits, rom, phase(dark), out).number()
+    number_of(&shown(state, digits, rom, dark, out))
 }

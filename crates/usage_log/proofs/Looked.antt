@@ -1,14 +1,15 @@
 -- Look-ups, by the range and the two cells of a night.
 use Prim.Native.Nat.{ℕ, ◌+◌, ◌≤◌}
+use Rattle.std.proofs.lemmas.Option.{cond_some}
+use Rattle.std.specs.Prelude.{Option, Some, None}
 use lib.Dec.{T, ltb, eqb, eqb→eq, nltb→le}
-use mathlib.Core.Bool.{Bool, true, false, cond, not, ◌&&◌, false≢true}
+use mathlib.Core.Bool.{Bool, true, false, cond, not, ◌&&◌}
 use mathlib.Core.List.{[], ◌∷◌}
-use mathlib.Core.Option.{Option, none, some}
 use mathlib.Core.Path.{◌≡◌, ◌∙◌, ap, refl}
 use native.Mathlib.Omega.{arith}
 use Rattle.bedside.specs.Log.{figure_cell, mark_cell, cell_byte, is_written, figure_of, look_up_answer, look_up_figure}
 use Rattle.calls.specs.Nights.{last_night, mark}
-use Rattle.condition.proofs.Tests.{is_true, not_not, and_left, and_right, each}
+use Rattle.condition.proofs.Tests.{is_true, holds, not_not, and_left, and_right, each}
 use Rattle.condition.specs.First.{◌when◌, first_of, ExactlyFrom}
 use Rattle.controller.specs.Part.{in_range}
 use Rattle.controller.specs.declared.Controller.{Controller}
@@ -53,7 +54,7 @@ looked c night e =
 abbrev pub CellsAlike : (c t : Controller) (night : ℕ) → Type 0
 CellsAlike c t night = (cell_byte t (figure_cell night) ≡ cell_byte c (figure_cell night)) × (cell_byte t (mark_cell night) ≡ cell_byte c (mark_cell night))
 
-cond_alike : (b : Bool) {x y : Option ℕ} → (T b → x ≡ y) → cond b x none ≡ cond b y none
+cond_alike : (b : Bool) {x y : Option ℕ} → (T b → x ≡ y) → cond b x None ≡ cond b y None
 cond_alike true e = e tt
 cond_alike false e = refl
 
@@ -64,7 +65,7 @@ module _ (c t : Controller) (night : ℕ) (ranged : in_range t.registers ≡ in_
 
   figures_alike : CellsAlike c t night → figure_of t night ≡ figure_of c night
   unfolding figure_of is_written
-  figures_alike e = ap (λ (m : ℕ). cond (eqb m mark) (some (cell_byte t (figure_cell night))) none) e.1 ∙ ap (λ (q : ℕ). cond (eqb (cell_byte c (mark_cell night)) mark) (some q) none) e.0
+  figures_alike e = ap (λ (m : ℕ). cond (eqb m mark) (Some (cell_byte t (figure_cell night))) None) e.1 ∙ ap (λ (q : ℕ). cond (eqb (cell_byte c (mark_cell night)) mark) (Some q) None) e.0
 
   unwritten_alike : T (not (is_written c night)) → cell_byte t (mark_cell night) ≡ cell_byte c (mark_cell night) → figure_of t night ≡ figure_of c night
   unfolding figure_of is_written
@@ -75,7 +76,7 @@ module _ (c t : Controller) (night : ℕ) (ranged : in_range t.registers ≡ in_
   looks_same e = record {
     number = answers_alike;
     figure =
-        ap (λ (n : ℕ). cond (eqb n 0) (figure_of t night) none) answers_alike
+        ap (λ (n : ℕ). cond (eqb n 0) (figure_of t night) None) answers_alike
         ∙ cond_alike (eqb (look_up_answer c night) 0) (λ u. figures_alike (e (looked c night (eqb→eq (look_up_answer c night) 0 u)).in_course));
   }
 
@@ -84,7 +85,7 @@ module _ (c t : Controller) (night : ℕ) (ranged : in_range t.registers ≡ in_
   unfolding look_up_figure
   looks_unwritten u e = record {
     number = answers_alike;
-    figure = ap (λ (n : ℕ). cond (eqb n 0) (figure_of t night) none) answers_alike ∙ cond_alike (eqb (look_up_answer c night) 0) (λ v. unwritten_alike u e);
+    figure = ap (λ (n : ℕ). cond (eqb n 0) (figure_of t night) None) answers_alike ∙ cond_alike (eqb (look_up_answer c night) 0) (λ v. unwritten_alike u e);
   }
 
 -- ---- written
@@ -96,18 +97,7 @@ looks_written c night quarters e m q = record { number = e; figure = rw (e, m, q
 pub still_written : (c t : Controller) (night quarters : ℕ) → LooksSame c t night → LooksWritten c night quarters → LooksWritten t night quarters
 still_written c t night quarters same w = record { number = same.number ∙ w.number; figure = same.figure ∙ w.figure }
 
-is_some : Option ℕ → Bool
-is_some none = false
-is_some (some quarters) = true
-
-some_of_both : (a b : Bool) (x : Option ℕ) {quarters : ℕ} → cond a (cond b x none) none ≡ some quarters → T b
-unfolding is_some
-some_of_both true true x e = tt
-some_of_both true false x e = absurd (false≢true (ap is_some e))
-some_of_both false true x e = tt
-some_of_both false false x e = absurd (false≢true (ap is_some e))
-
 -- the mark of a night that looks written is 01
 pub written_marked : (c : Controller) (night quarters : ℕ) → LooksWritten c night quarters → T (is_written c night)
 unfolding look_up_figure figure_of
-written_marked c night quarters w = some_of_both (eqb (look_up_answer c night) 0) (is_written c night) (some (cell_byte c (figure_cell night))) w.figure
+written_marked c night quarters w = let marked : figure_of c night ≡ Some quarters = rw w.number at w.figure in holds _ (cond_some _ _ _ marked).0

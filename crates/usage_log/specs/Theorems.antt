@@ -1,12 +1,9 @@
 -- What is proved of the bedside panel and its usage log, for the person who ordered it; Words.antt has the words.
-use Rattle.std.specs.Prelude.{ℕ, T, eqb, length, get_or, take, false, not, ◌&&◌, List, [], ◌⊎◌, ◌≢◌, ◌≡◌}
-use Rattle.bedside.specs.Answers.{number_of}
+use Rattle.std.specs.Prelude.{⊤, ℕ, T, eqb, length, get_or, take, false, Option, not, ◌&&◌, List, [], ◌⊎◌, Result, ◌≢◌, ◌≡◌}
 use Rattle.bedside.specs.Log.{figure_cell, mark_cell, look_up_rules, look_up_answer, LookingUp}
 use Rattle.bedside.specs.Panel.{call_leaves, call_wraps, Calling}
 use Rattle.bedside.specs.Refusals.{call_rules, call_answer}
 use Rattle.bedside.specs.declared.Outcome.{Outcome}
-use Rattle.bedside.specs.declared.answer.Answer.{Answer}
-use Rattle.bedside.specs.declared.look.Night.{Night}
 use Rattle.bus.specs.Events.{after_events, said_by}
 use Rattle.bus.specs.Written.{Whole}
 use Rattle.calls.specs.Events.{log_events, call_events}
@@ -16,6 +13,8 @@ use Rattle.condition.specs.First.{Exactly}
 use Rattle.controller.specs.Part.{in_range}
 use Rattle.controller.specs.declared.Controller.{Controller}
 use Rattle.record.specs.Reading.{AllSmall}
+use Rattle.refusal.specs.Refusals.{number_of}
+use Rattle.refusal.specs.declared.Refusal.{Refusal}
 use Rattle.restart.specs.Writes.{halves, Write, Given, after, AtEach, lower_lines, restart_of}
 use Rattle.usage_log.specs.Words.{LooksSame, SameLog, LooksWritten, on_line, Action, after_actions, ActionsAreBytes, NoneRefused, end_of}
 
@@ -124,10 +123,10 @@ LookUpGivenExactly = (c : Controller) (night : ℕ) → Exactly (look_up_answer 
 -- ---- any two outcomes that a promise allows are equal
 
 abbrev pub AnswerSettled : Type 0
-AnswerSettled = (c : Controller) (call : Call) (count : ℕ) (r r' : Answer) → number_of r ≡ call_answer c call count → number_of r' ≡ call_answer c call count → r ≡ r'
+AnswerSettled = (c : Controller) (call : Call) (count : ℕ) (r r' : Result ⊤ Refusal) → number_of r ≡ call_answer c call count → number_of r' ≡ call_answer c call count → r ≡ r'
 
 abbrev pub CallSettled : Type 0
 CallSettled = (c : Controller) (call : Call) (characters : List ℕ) (o o' : Outcome) → Calling c call characters o → Calling c call characters o' → o ≡ o'
 
 abbrev pub LookUpSettled : Type 0
-LookUpSettled = (c : Controller) (night : ℕ) (r r' : Night) → LookingUp c night r → LookingUp c night r' → r ≡ r'
+LookUpSettled = (c : Controller) (night : ℕ) (r r' : Result (Option ℕ) Refusal) → LookingUp c night r → LookingUp c night r' → r ≡ r'

@@ -1,6 +1,5 @@
 -- The words of the theorems about the usage log: what a look-up finds, which cells a call writes, where a call ends.
-use Rattle.std.proofs.Math.Option.{some}
-use Rattle.std.specs.Prelude.{ℕ, ◌+◌, T, ltb, leb, eqb, set, Bool, ◌&&◌, ◌||◌, List, [], ◌∷◌, ◌≡◌}
+use Rattle.std.specs.Prelude.{ℕ, ◌+◌, T, ltb, leb, eqb, set, Bool, Some, ◌&&◌, ◌||◌, List, [], ◌∷◌, ◌≡◌}
 use Rattle.bedside.specs.Log.{figure_cell, mark_cell, look_up_answer, look_up_figure}
 use Rattle.bedside.specs.Panel.{call_leaves}
 use Rattle.bedside.specs.Refusals.{text_length}
@@ -29,7 +28,7 @@ SameLog before after = (night : ℕ) → LooksSame before after night
 -- the night is written, with this figure
 pub record LooksWritten (c : Controller) (night quarters : ℕ) : Type 0 where
   pub number : look_up_answer c night ≡ 0
-  pub figure : look_up_figure c night ≡ some quarters
+  pub figure : look_up_figure c night ≡ Some quarters
 
 -- bytes, from a cell on, each in the cell behind the one before
 unfoldable pub stored_from : (cell : ℕ) (bytes display : List ℕ) → List ℕ

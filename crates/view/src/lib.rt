@@ -9,25 +9,16 @@ mod put;
 mod word;
 mod words;
 
-use dots::Phase;
-use drawing::Form;
-use printing::Answer;
 use put::put_view;
-pub use words::{Asked, asked_by};
+use refusal::Refusal;
+pub use words::{Wanted, asked_by};
 
 // Runs a record from a part switched on; bytes behind what is written stay, and a refusal writes none.
-pub fn view(
-    digits: u8,
-    phase: Phase,
-    form: Form,
-    rom: &[u8],
-    bytes: &[u8],
-    out: &mut [u8],
-) -> Answer
-    ensures { Printed most_drawn (view_of digits phase form rom.now bytes.now) out.old result out.new }
+pub fn view(wanted: Wanted, rom: &[u8], bytes: &[u8], out: &mut [u8]) -> Result<usize, Refusal>
+    ensures { Printed most_drawn (view_of wanted rom.now bytes.now) out.old result out.new }
 {
     if out.len() < drawing::MOST_BYTES {
-        return Answer::ShortBuffer;
+        return Err(Refusal::ShortBuffer);
     }
-    Answer::Done(put_view(digits, phase, form, rom, bytes, out))
+    Ok(put_view(wanted, rom, bytes, out))
 }

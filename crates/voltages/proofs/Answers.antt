@@ -1,48 +1,40 @@
 -- Which answer is given, by the two tests, and that each number is given exactly when its rule says.
-use Prim.Native.Nat.{ℕ}
-use lib.Dec.{T}
+use Rattle.std.specs.Prelude.{Ok, Err}
 use mathlib.Core.Bool.{true, false, Bool, not}
 use mathlib.Core.List.{[], ◌∷◌}
 use mathlib.Core.Path.{◌≡◌, ◌∙◌, ap, refl, sym}
-use native.Mathlib.Omega.{arith}
 use Rattle.condition.proofs.First.{first_given_exactly}
 use Rattle.condition.proofs.Tests.{holds}
 use Rattle.condition.specs.First.{first_of, ◌when◌, absent, distinct}
-use Rattle.voltages.specs.Answers.{has_vdd, has_span, answer_of, number_of, answer_with, refusals}
+use Rattle.refusal.specs.Refusals.{number_of}
+use Rattle.refusal.specs.declared.Refusal.TheVariants.{BadVdd, BadSpan}
+use Rattle.voltages.specs.Answers.{has_vdd, has_span, InRange, answer_of, answer_with, refusals}
 use Rattle.voltages.specs.Theorems.{VoltagesGivenExactly}
-use Rattle.voltages.specs.Voltages.{step_of, divisor_of, steps_of}
-use Rattle.voltages.specs.declared.Answer.{Answer}
-use Rattle.voltages.specs.declared.Answer.TheVariants.{Done, BadVdd, BadSpan}
-use Rattle.voltages.specs.declared.Bias.{Bias}
+use Rattle.voltages.specs.Voltages.{step_for, steps_of}
+use Rattle.voltages.specs.declared.Drive.{Drive}
 use Rattle.voltages.specs.declared.Steps.{Steps}
 
--- the steps that an answer carries, or others
-abbrev steps_in : Steps → Answer → Steps
-steps_in others (Done steps) = steps
-steps_in others BadVdd = others
-steps_in others BadSpan = others
-
-module _ (vdd span : ℕ) (bias : Bias) where
-  pub vdd_refused : has_vdd vdd ≡ false → BadVdd ≡ answer_of vdd span bias
+module _ (drive : Drive) where
+  pub vdd_refused : has_vdd drive.vdd ≡ false → Err BadVdd ≡ answer_of drive
   unfolding answer_of first_of
   vdd_refused v = rw v
 
-  pub span_refused : has_vdd vdd ≡ true → has_span span ≡ false → BadSpan ≡ answer_of vdd span bias
+  pub span_refused : has_vdd drive.vdd ≡ true → has_span drive.span ≡ false → Err BadSpan ≡ answer_of drive
   unfolding answer_of first_of
   span_refused v s = rw (v, s)
 
-  pub steps_given : has_vdd vdd ≡ true → has_span span ≡ true → Done (steps_of (step_of (divisor_of bias) vdd span) bias) ≡ answer_of vdd span bias
+  pub steps_given : has_vdd drive.vdd ≡ true → has_span drive.span ≡ true → Ok (steps_of (step_for drive) drive.bias) ≡ answer_of drive
   unfolding answer_of first_of
   steps_given v s = rw (v, s)
 
   -- an answer with steps is that of numbers in range, and its steps are those of the definition
-  pub done_told : (steps : Steps) → Done steps ≡ answer_of vdd span bias → T (has_vdd vdd) × T (has_span span) × (steps ≡ steps_of (step_of (divisor_of bias) vdd span) bias)
-  done_told steps e = go (has_vdd vdd) (has_span span) refl refl
+  pub done_told : (steps : Steps) → Ok steps ≡ answer_of drive → InRange drive × (steps ≡ steps_of (step_for drive) drive.bias)
+  done_told steps e = go (has_vdd drive.vdd) (has_span drive.span) refl refl
     where
-      go : (v s : Bool) → has_vdd vdd ≡ v → has_span span ≡ s → T (has_vdd vdd) × T (has_span span) × (steps ≡ steps_of (step_of (divisor_of bias) vdd span) bias)
-      go false s p q = let n : ◌≡◌ {A = ℕ} 0 21 = ap number_of (e ∙ sym (vdd_refused p)) in absurd (omega arith)
-      go true false p q = let n : ◌≡◌ {A = ℕ} 0 22 = ap number_of (e ∙ sym (span_refused p q)) in absurd (omega arith)
-      go true true p q = (holds (has_vdd vdd) p, holds (has_span span) q, ap (steps_in steps) (e ∙ sym (steps_given p q)))
+      go : (v s : Bool) → has_vdd drive.vdd ≡ v → has_span drive.span ≡ s → InRange drive × (steps ≡ steps_of (step_for drive) drive.bias)
+      go false s p q = let n = e ∙ sym (vdd_refused p) in cc
+      go true false p q = let n = e ∙ sym (span_refused p q) in cc
+      go true true p q = let n = e ∙ sym (steps_given p q) in ((holds (has_vdd drive.vdd) p, holds (has_span drive.span) q), (cc))
 
 -- the answer that has the first refusal's number
 number_of_answer : (vdd span : Bool) (steps : Steps) →
@@ -54,5 +46,5 @@ number_of_answer true true steps = refl
 
 pub voltages_given_exactly : VoltagesGivenExactly
 unfolding answer_of absent distinct
-voltages_given_exactly vdd span bias r e =
-    rw (ap number_of e ∙ number_of_answer (has_vdd vdd) (has_span span) (steps_of (step_of (divisor_of bias) vdd span) bias)) (first_given_exactly (refusals vdd span) 0 tt)
+voltages_given_exactly drive r e =
+    rw (ap number_of e ∙ number_of_answer (has_vdd drive.vdd) (has_span drive.span) (steps_of (step_for drive) drive.bias)) (first_given_exactly (refusals drive) 0 tt)

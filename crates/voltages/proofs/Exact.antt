@@ -95,9 +95,10 @@ quarter_exact vdd span k hv hs hk =
     (exact false (k * span) 8 (omega arith) (lit≤ tt)))
 
 pub ladder_ends : LadderEnds
-ladder_ends vdd span bias hv hs =
-    let divisor = divisor_of bias in
-    let d = divisor_range bias in (
-      whole_step divisor vdd span 0 d.0 d.1 hs zero-le hv 0 zero-le (omega arith),
-      whole_step divisor vdd span divisor d.0 d.1 hs (le_refl divisor) hv span (in_range_lem 192 512 span hs).1 (mul_comm divisor span),
+ladder_ends drive range =
+    let divisor = divisor_of drive.bias in
+    let d = divisor_range drive.bias in
+    let span = drive.span in (
+      whole_step divisor drive.vdd span 0 d.0 d.1 range.1 zero-le range.0 0 zero-le (omega arith),
+      whole_step divisor drive.vdd span divisor d.0 d.1 range.1 (le_refl divisor) range.0 span (in_range_lem 192 512 span range.1).1 (mul_comm divisor span),
     )

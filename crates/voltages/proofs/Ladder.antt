@@ -10,7 +10,7 @@ use native.Mathlib.Nat.{mul-pos}
 use native.Mathlib.Omega.{arith}
 use Rattle.voltages.specs.Answers.{has_vdd, has_span}
 use Rattle.voltages.specs.Theorems.{Equals, Near, VoltagesAreNumbers, LadderFalls}
-use Rattle.voltages.specs.Voltages.{step_of, divisor_of}
+use Rattle.voltages.specs.Voltages.{step_of, step_for, divisor_of}
 use Rattle.voltages.specs.declared.Bias.{Bias}
 use Rattle.voltages.specs.declared.Bias.TheVariants.{Quarter, Fifth}
 use Rattle.voltages.proofs.Exact.{divisor_range, in_range_lem, quarter_exact}
@@ -35,7 +35,7 @@ number (inf t) s a c v = tt
 number (fin t m e) s a c v = tt
 
 pub voltages_are_numbers : VoltagesAreNumbers
-voltages_are_numbers vdd span k bias hv hs hk = number (step_of (divisor_of bias) vdd span k) _ _ _ (step_near vdd span k bias hv hs hk).1
+voltages_are_numbers drive k range hk = number (step_for drive k) _ _ _ (step_near drive.vdd drive.span k drive.bias range.0 range.1 hk).1
 
 -- the order of two values is that of their differences
 lt_of_equals : (x y : Float) (a b a' b' c : ℕ) → 0 < c → Equals x a b c → Equals y a' b' c → a + b' < a' + b → T (lt x y)
@@ -50,10 +50,12 @@ lt_of_equals x y a b a' b' c above v w h =
     go false p false q = lt→ltb (a - b) (a' - b') (omega (arith, h, ltb-false a b p, ltb-false a' b' q))
 
 pub ladder_falls : LadderFalls
-ladder_falls vdd span k bias hv hs hk =
-    let d = divisor_of bias in
-    let range = divisor_range bias in
-    let lower = step_near vdd span (suc k) bias hv hs hk in
-    let upper = step_near vdd span k bias hv hs (omega arith) in
-    lt_of_equals (step_of d vdd span (suc k)) (step_of d vdd span k) lower.0 (2 ^ 22 * (suc k * span)) upper.0 (2 ^ 22 * (k * span)) (2 ^ 22 * (64 * d)) (mul-pos (lit< tt) (mul-pos (lit< tt) range.0)) lower.1 upper.1
-    (omega (arith, lower.3, upper.2, range.1, (in_range_lem 192 512 span hs).0))
+ladder_falls drive k range hk =
+    let vdd = drive.vdd in
+    let span = drive.span in
+    let d = divisor_of drive.bias in
+    let divisor = divisor_range drive.bias in
+    let lower = step_near vdd span (suc k) drive.bias range.0 range.1 hk in
+    let upper = step_near vdd span k drive.bias range.0 range.1 (omega arith) in
+    lt_of_equals (step_for drive (suc k)) (step_for drive k) lower.0 (2 ^ 22 * (suc k * span)) upper.0 (2 ^ 22 * (k * span)) (2 ^ 22 * (64 * d)) (mul-pos (lit< tt) (mul-pos (lit< tt) divisor.0)) lower.1 upper.1
+    (omega (arith, lower.3, upper.2, divisor.1, (in_range_lem 192 512 span range.1).0))

@@ -2,46 +2,46 @@
 #![tactic(auto)]
 
 ghost use Rattle.std.specs.Prelude.{◌≡◌};
-ghost use Rattle.voltages.specs.Answers.{number_of, is_within, answer_of};
-ghost use Rattle.voltages.specs.Voltages.{volts_of, step_of, divisor_of, steps_of};
+ghost use Rattle.voltages.specs.Answers.{is_within, answer_of};
+ghost use Rattle.voltages.specs.Voltages.{is_bias_of, volts_of, divisor_of, step_for, steps_of};
 
-#[derive(Clone, Copy)]
+use refusal::Refusal;
+
+#[derive(Clone, Copy, PartialEq, Eq)]
 pub enum Bias {
     Quarter,
     Fifth,
 }
 
+// Fifth or not.
+impl From<bool> for Bias {
+    ghost from_gives = { is_bias_of };
+
+    fn from(fifth: bool) -> Bias {
+        if fifth { Bias::Fifth } else { Bias::Quarter }
+    }
+}
+
+// VDD and the drive span in 64ths of a volt, and which bias.
+#[derive(Clone, Copy)]
+pub struct Drive {
+    pub vdd: u16,
+    pub span: u16,
+    pub bias: Bias,
+}
+
 #[derive(Clone, Copy)]
 pub enum Steps {
     // V1, V2 = V3, V4.
-    Quarter(f32, f32, f32),
+    Quarter([f32; 3]),
     // V1, V2, V3, V4.
-    Fifth(f32, f32, f32, f32),
-}
-
-#[derive(Clone, Copy)]
-pub enum Answer {
-    Done(Steps),
-    BadVdd,
-    BadSpan,
-}
-
-impl Answer {
-    pub fn number(self) -> u8
-        ensures { result ≡ number_of self }
-    {
-        match self {
-            Answer::Done(_) => 0,
-            Answer::BadVdd => 21,
-            Answer::BadSpan => 22,
-        }
-    }
+    Fifth([f32; 4]),
 }
 
 fn within(n: u16, least: u16, most: u16) -> bool
     ensures { result ≡ is_within least most n }
 {
-    (least <= n) & (n <= most)
+    (least..=most).contains(&n)
 }
 
 fn volts(n: u16) -> f32
@@ -50,40 +50,42 @@ fn volts(n: u16) -> f32
     n as f32 / 64.0
 }
 
-// The span is divided by 4 or by 5 only after the product: k times a fifth of it is another number.
-fn step(divisor: u16, vdd: u16, span: u16, k: u16) -> f32
-    ensures { result ≡ step_of divisor vdd span k }
-{
-    volts(vdd) - k as f32 * volts(span) / divisor as f32
-}
+impl Drive {
+    pub fn divisor(self) -> u16
+        ensures { result ≡ divisor_of self.bias }
+    {
+        match self.bias {
+            Bias::Quarter => 4,
+            Bias::Fifth => 5,
+        }
+    }
 
-fn steps_of(vdd: u16, span: u16, bias: Bias) -> Steps
-    ensures { result ≡ steps_of (step_of (divisor_of bias) vdd span) bias }
-{
-    match bias {
-        Bias::Quarter => Steps::Quarter(
-            step(4, vdd, span, 1),
-            step(4, vdd, span, 2),
-            step(4, vdd, span, 3),
-        ),
-        Bias::Fifth => Steps::Fifth(
-            step(5, vdd, span, 1),
-            step(5, vdd, span, 2),
-            step(5, vdd, span, 3),
-            step(5, vdd, span, 4),
-        ),
+    // The span is divided by 4 or by 5 only after the product: k times a fifth of it is another number.
+    fn step(self, k: u16) -> f32
+        ensures { result ≡ step_for self k }
+    {
+        volts(self.vdd) - k as f32 * volts(self.span) / self.divisor() as f32
+    }
+
+    fn steps(self) -> Steps
+        ensures { result ≡ steps_of (step_for self) self.bias }
+    {
+        match self.bias {
+            Bias::Quarter => Steps::Quarter([self.step(1), self.step(2), self.step(3)]),
+            Bias::Fifth => Steps::Fifth([self.step(1), self.step(2), self.step(3), self.step(4)]),
+        }
     }
 }
 
 // VDD is tested first. V4 below 0 is right, and no refusal.
-pub fn voltages(vdd: u16, span: u16, bias: Bias) -> Answer
-    ensures { result ≡ answer_of vdd span bias }
+pub fn voltages(drive: Drive) -> Result<Steps, Refusal>
+    ensures { result ≡ answer_of drive }
 {
-    if !within(vdd, 288, 352) {
-        return Answer::BadVdd;
+    if !within(drive.vdd, 288, 352) {
+        return Err(Refusal::BadVdd);
     }
-    if !within(span, 192, 512) {
-        return Answer::BadSpan;
+    if !within(drive.span, 192, 512) {
+        return Err(Refusal::BadSpan);
     }
-    Answer::Done(steps_of(vdd, span, bias))
+    Ok(drive.steps())
 }

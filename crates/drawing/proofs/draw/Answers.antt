@@ -12,24 +12,22 @@ use Rattle.drawing.proofs.draw.Goals as goal
 pub returns-then-not-has_digits : goal.returns-then-not-has_digits
 unfolding answer_for refusals first_of
 returns-then-not-has_digits c =
-    refused _ _ _ _ _ _ (simp (sym c.if-not-has_digits.ensures)) refl refl
+    refused _ _ _ _ _ _ (simp (sym c.if-not-has_digits.ensures)) refl
 
 pub returns-then-dots-byte_count : goal.returns-then-dots-byte_count
 unfolding answer_for refusals first_of
 returns-then-dots-byte_count c =
-    refused _ _ _ _ _ _ (simp (sym c.if-not-has_digits.ensures, sym c.byte_count.ensures, lt-ltb _ _ c.if-dots-byte_count.true)) refl refl
+    refused _ _ _ _ _ _ (simp (sym c.if-not-has_digits.ensures, sym c.byte_count.ensures, lt-ltb _ _ c.if-dots-byte_count.true)) refl
 
 pub returns-then-out-size : goal.returns-then-out-size
 unfolding answer_for refusals first_of
 returns-then-out-size c =
     let counted = digits_counted _ _ (sym c.if-not-has_digits.ensures) in
     let size = c.byte_size-size.ensures ∙ sym (length_drawing c.args.form c.args.mode c.args.digits c.args.dots.now counted.0) in
-    refused _ _ _ _ _ _ (simp (sym c.if-not-has_digits.ensures, sym c.byte_count.ensures, le-ltb _ _ c.if-dots-byte_count.false, sym size, lt-ltb _ _ c.if-out-size.true)) refl refl
+    refused _ _ _ _ _ _ (simp (sym c.if-not-has_digits.ensures, sym c.byte_count.ensures, le-ltb _ _ c.if-dots-byte_count.false, sym size, lt-ltb _ _ c.if-out-size.true)) refl
 
 pub draw_whole-requires : goal.draw_whole-requires
-draw_whole-requires c =
-    let counted = digits_counted _ _ (sym c.if-not-has_digits.ensures) in
-    (counted.0, counted.1, rw c.byte_count.ensures at c.if-dots-byte_count.false, length-take-le _ _ c.if-out-size.false ∙ c.byte_size-size.ensures)
+draw_whole-requires c = (rw c.byte_count.ensures at c.if-dots-byte_count.false, length-take-le _ _ c.if-out-size.false ∙ c.byte_size-size.ensures)
 
 pub returns : goal.returns
 unfolding answer_for refusals first_of

@@ -1,33 +1,37 @@
 -- A turn of the loop gives one write more, the last the whole restart.
-use Rattle.std.proofs.Common.{◌≡◌, ◌∙◌, ℕ, ◌%◌, false, refl, sym, ap, arith, add-one, get_or}
+use Rattle.std.proofs.Common.{◌≡◌, ◌∙◌, false, rules, sym, ap, length, ◌∷◌, ◌⊎◌}
+use Rattle.std.specs.Prelude.{Ok}
 use Rattle.bus.specs.Transfer.{told}
 use Rattle.controller.specs.declared.Controller.{Controller}
-use Rattle.controller.specs.declared.answer.Answer.{Answer}
-use Rattle.restart.specs.Writes.{halves, patiently, told_of, restart_of}
-use Rattle.restart.proofs.Firsts.{after_first, all_twelve}
+use Rattle.controller.specs.declared.answer.Reply.{Reply}
+use Rattle.restart.specs.Writes.{halves, after, patient, restart_of}
+use Rattle.restart.proofs.Firsts.{low, small_halves, all_to_come, first_small, first_given, none_to_come}
 use Rattle.restart.proofs.restart.Goals as goal
 
-pub loop-i-init : goal.loop-i-init
-unfolding after_first
-loop-i-init c = (omega arith, refl, sym c.in_range.ensures ∙ c.if-not-in_range.false)
+pub loop-upper-init : goal.loop-upper-init
+loop-upper-init c =
+    let uppers : c.into_iter-upper-iterator.result.a.rest.now ≡ halves = search rules in
+    let lowers : c.into_iter-upper-iterator.result.b.rest.now ≡ c.args.lower = search rules in
+    let long : length c.args.lower ≡ 12 = search rules in
+    (rw uppers small_halves, all_to_come _ _ _ _ uppers lowers long, sym c.in_range.ensures ∙ c.if-not-in_range.false)
 
-pub loop-i-preserved : goal.loop-i-preserved
-unfolding after_first
-loop-i-preserved c =
-    let i : ℕ = c.loop-i.i in (
-      omega arith,
-      rw (add-one i)
-          (c.write-after.ensures.0
-          ∙ ap (λ (x : Controller). (told_of (get_or halves i 0) (patiently (get_or c.args.lower i 0 % 16)) x).controller) c.loop-i.invariant.1),
+pub write-after-requires : goal.write-after-requires
+write-after-requires c =
+    let upper : c.loop-upper.upper-iterator.a.rest.now ≡ c.in-Some.upper.now ∷ c.next.new.self.a.rest.now = search rules in
+    ((first_small c.args.controller _ c.args.lower _ _ upper c.loop-upper.invariant.0).0, c.loop-upper.invariant.2)
+
+pub loop-upper-preserved : goal.loop-upper-preserved
+loop-upper-preserved c =
+    let upper : c.loop-upper.upper-iterator.a.rest.now ≡ c.in-Some.upper.now ∷ c.next.new.self.a.rest.now = search rules in
+    let lower : c.loop-upper.upper-iterator.b.rest.now ≡ c.in-Some.lower.now ∷ c.next.new.self.b.rest.now = search rules in (
+      (first_small c.args.controller _ c.args.lower _ _ upper c.loop-upper.invariant.0).1,
+      ap (λ (x : Controller). after c.next.new.self.a.rest.now (patient (low c.next.new.self.b.rest.now)) x) c.write-after.ensures.0 ∙ sym (first_given _ _ _ _ _ _ _ upper lower) ∙ c.loop-upper.invariant.1,
       c.write-after.ensures.1,
     )
 
 pub returns : goal.returns
 unfolding restart_of
 returns c =
-    let e : c.loop-i.i ≡ 12 = omega arith in
+    let ended : (length c.loop-upper.upper-iterator.a.rest.now ≡ 0) ⊎ (length c.loop-upper.upper-iterator.b.rest.now ≡ 0) = search rules in
     rw (← c.in_range.ensures, c.if-not-in_range.false)
-    (ap (λ (x : Controller). told (record { controller = x; answer = Answer.Done 0; wrap = false }))
-    (c.loop-i.invariant.1
-    ∙ ap (λ (n : ℕ). after_first n c.args.controller c.args.lower) e
-    ∙ all_twelve c.args.controller c.args.lower))
+    (ap (λ (x : Controller). told (record { controller = x; answer = Ok (Reply.Done 0); wrap = false })) (sym (none_to_come _ _ _ ended) ∙ c.loop-upper.invariant.1))

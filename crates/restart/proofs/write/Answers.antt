@@ -4,4 +4,4 @@ use Rattle.restart.proofs.Two.{two_runnable}
 use Rattle.restart.proofs.write.Goals as goal
 
 pub run_events-requires : goal.run_events-requires
-run_events-requires c = two_runnable _ (omega arith) _ _ c.requires.1 (omega arith)
+run_events-requires c = rw c.to_be_bytes.ensures (two_runnable _ (omega arith) _ _ c.requires.1 (omega arith))

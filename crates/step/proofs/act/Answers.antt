@@ -9,7 +9,7 @@ returns-in-InstructionWrite c =
 
 pub returns-in-DataWrite : goal.returns-in-DataWrite
 returns-in-DataWrite c =
-    write_acts (with c.args.display.now c.args.character.now c.args.registers) c.args.byte c.requires.1 c.in-DataWrite.is c.store.ensures (rw c.shift_after.ensures at c.stepped_to-stepped.ensures)
+    write_acts (with c.args.display.now c.args.character.now c.args.registers) c.args.byte c.requires.1 c.in-DataWrite.is c.store.ensures (rw c.shift_after.ensures at c.stepped_to-effect.ensures)
 
 pub returns-in-StatusRead : goal.returns-in-StatusRead
 returns-in-StatusRead c =
@@ -17,4 +17,4 @@ returns-in-StatusRead c =
 
 pub returns-in-DataRead : goal.returns-in-DataRead
 returns-in-DataRead c =
-    read_acts (with c.args.display.now c.args.character.now c.args.registers) c.args.byte c.requires.1 c.in-DataRead.is (rw (c.answered-in-DataRead.ensures, c.addressed-read.ensures)) c.stepped_to-stepped-in-DataRead.ensures
+    read_acts (with c.args.display.now c.args.character.now c.args.registers) c.args.byte c.requires.1 c.in-DataRead.is (rw (c.answered-in-DataRead.ensures, c.addressed-read.ensures)) c.stepped_to-effect-in-DataRead.ensures

@@ -4,4 +4,4 @@ use Rattle.text.proofs.Decimal.{digits_below}
 use Rattle.text.proofs.put_refused.Goals as goal
 
 pub put_named-requires : goal.put_named-requires
-put_named-requires c = omega (arith, digits_below 2 c.args.number (omega arith))
+put_named-requires c = omega (arith, digits_below 2 c.from.result (omega arith))

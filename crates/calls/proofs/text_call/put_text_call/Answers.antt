@@ -1,12 +1,9 @@
 -- Each part has its room behind the one before, and the three are the events of the call.
 use Rattle.std.proofs.Common.{arith}
 use lib.Dec.{lit≤}
-use Rattle.calls.proofs.Calls.{below, line_below, text_put}
+use Rattle.calls.proofs.Calls.{text_put}
 use Rattle.calls.proofs.Put.{byte_next, data_next}
 use Rattle.calls.proofs.text_call.put_text_call.Goals as goal
-
-pub put_address-first-requires : goal.put_address-first-requires
-put_address-first-requires c = (below c.line_address.ensures (line_below c.args.line), omega arith)
 
 pub put_data-last-requires : goal.put_data-last-requires
 put_data-last-requires c = omega (arith, byte_next _ _ _ c.put_address-first.ensures)

@@ -6,15 +6,15 @@ use Rattle.drawing.proofs.Lengths.{length_row, row_from}
 use Rattle.drawing.proofs.lines.draw_line.Goals as goal
 
 pub loop-row-init : goal.loop-row-init
-loop-row-init c = (omega arith, omega (arith, zero-mul c.args.digits), taken_start _ _ _)
+loop-row-init c = (omega arith, omega (arith, zero-mul c.args.digits.count), taken_start _ _ _)
 
 pub loop-row-preserved : goal.loop-row-preserved
 loop-row-preserved c =
     let i = c.loop-row in (
       omega arith,
-      omega (arith, suc-mul i.row c.args.digits, add-one i.row),
+      omega (arith, suc-mul i.row c.args.digits.count, add-one i.row),
       taken_next _ _ _ _ _ _ _ _ i.invariant.2
-          (λ q. length_row _ _ _ c.requires.0 ∙ sym c.row_size-size.ensures.0)
+          (λ q. length_row _ _ _ c.args.digits.some ∙ sym c.row_size-size.ensures.0)
           (c.draw_row.ensures ∙ row_from _ _ _ _ c.args.dots.now i.invariant.1)
           refl
           (search rules),
