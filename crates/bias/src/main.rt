@@ -7,7 +7,7 @@ use std::io;
 use std::io::Write;
 use voltages::Drive;
 
-// The most bytes of a word; a longer one is read as an empty one.
+// The most bytes of a word, in fixed memory; a longer one is read as an empty one.
 const WORD: usize = 4096;
 
 // How many words follow the program's name. Nothing can be promised of what the system hands over, so no library has this.

@@ -15,6 +15,7 @@ use log_call::put_log_call;
 pub use nights::{MARK, Night};
 use text_call::put_text_call;
 
+// There are these two, so each part of a call is a match.
 #[derive(Clone, Copy, PartialEq, Eq)]
 pub enum Call {
     // The line that the characters are written on.

@@ -12,6 +12,7 @@ use text::{put_number, put_refused, put_text};
 // `not yet written` and the line's end.
 pub(crate) const MOST_BYTES: usize = 16;
 
+// The buffer is the caller's, so its room is a clause.
 #[tactic(auto, unfolding(crate::specs::Course::figure_line))]
 fn put_line(said: Said, out: &mut [u8]) -> usize
     requires { most_line ≤ length out.old }

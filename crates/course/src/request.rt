@@ -1,4 +1,4 @@
-// What the panel program is asked for.
+// What the panel program is asked for: these two, so that a match answers.
 use calls::Call;
 
 #[derive(Clone, Copy, PartialEq, Eq)]

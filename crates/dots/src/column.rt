@@ -22,7 +22,8 @@ fn pattern(character: &[u8; 64], rom: &[u8; IMAGE_SIZE], size: Size, code: u8, r
     character[16 * (code / 2 % 4) + row]
 }
 
-// The low five bits of each row's pattern; the other digits' bytes stay.
+// The low five bits of each row's pattern; the other digits' bytes stay. The buffer's length is a clause, here and where else
+// dots are drawn: it is a fact of a buffer that is lent.
 fn draw_rows(
     character: &[u8; 64],
     rom: &[u8; IMAGE_SIZE],

@@ -4,6 +4,7 @@ use lib.ListN.{length, take, drop, get_or, length-append, length-drop}
 use lib.Seq.{take-length, get_or-drop}
 use mathlib.Core.List.{List}
 use mathlib.Core.Path.{◌≡◌, refl, ◌∙◌}
+use native.Mathlib.Nat.{add_assoc, one-mul, zero-add, zero-mul}
 use native.Mathlib.Omega.{arith}
 use Rattle.controller.specs.declared.registers.Mode.{Mode}
 use Rattle.counters.specs.declared.LineMode.{LineMode}
@@ -27,12 +28,12 @@ unfolding row_in row_size text_row image_row
 length_row Text digits byte h = simp (length-append, length_values) (omega arith)
 length_row Image digits byte h = length_values _ _
 
-pub length_gap : (form : Form) (digits : ℕ) → length (gap_in form digits) ≡ gap_size form digits
+length_gap : (form : Form) (digits : ℕ) → length (gap_in form digits) ≡ gap_size form digits
 unfolding gap_in gap_size row_size image_row
 length_gap Text digits = refl
 length_gap Image digits = length_values _ _
 
-pub length_line : (form : Form) (rows digits : ℕ) (dots : List ℕ) (line : ℕ) → 1 ≤ digits → length (line_in form rows digits dots line) ≡ rows * row_size form digits
+length_line : (form : Form) (rows digits : ℕ) (dots : List ℕ) (line : ℕ) → 1 ≤ digits → length (line_in form rows digits dots line) ≡ rows * row_size form digits
 unfolding line_in
 length_line form rows digits dots line h = length_parts rows (row_size form digits) _ (λ row. length_row form digits _ h)
 
@@ -55,3 +56,8 @@ rest_lent from dots =
 pub row_from : (form : Form) (digits from place : ℕ) (dots : List ℕ) → from ≡ place
     → row_in form digits (λ digit. get_or (take (length dots - from) (drop from dots)) digit 0) ≡ row_in form digits (λ digit. get_or dots (place + digit) 0)
 row_from form digits from place dots e = rw (rest_lent, e) (simp get_or-drop)
+
+pub line_behind : (form : Form) (rows digits : ℕ) (dots : List ℕ)
+    → line_in form rows digits (take (length dots - rows * digits) (drop (rows * digits) dots)) 0 ≡ line_in form rows digits dots 1
+unfolding line_in
+line_behind form rows digits dots = rw rest_lent (simp (get_or-drop, zero-mul, one-mul, zero-add, add_assoc))

@@ -3,79 +3,86 @@ ghost use Rattle.std.specs.Prelude.{◌*◌, ◌≤◌, ◌<◌, length, ◌≡�
 ghost use Rattle.size.specs.Size.{rows_of};
 ghost use Rattle.drawing.specs.Drawing.{height_of, head_of, most_drawn};
 ghost use Rattle.drawing.specs.Promises.{row_size, gap_size, lines_size, size_of};
+ghost use Rattle.drawing.specs.Row.{width_of};
 
-use super::digits::Digits;
 use super::form::Form;
-use super::row::width;
-use controller::registers::Mode;
+use super::layout::Layout;
 use counters::LineMode;
 use size::row_count;
 use text::digit_count;
 
-#[tactic(auto, unfolding(size::specs::Size::lines_of))]
-pub(crate) fn height(mode: Mode) -> usize
-    ensures { (result ≡ height_of mode) × (result < 100) }
-{
-    let rows = row_count(mode);
-    let lines = mode.lines;
-    match lines {
-        LineMode::One => rows,
-        LineMode::Two => 2 * rows + 1,
+impl Layout {
+    pub(crate) fn width(self) -> usize
+        ensures { (result ≡ width_of self.digits) × (result ≤ 479) }
+    {
+        6 * self.digits - 1
     }
-}
 
-#[tactic(auto, using(crate::proofs::Lengths::length_head), unfolding(crate::specs::Drawing::head_of))]
-fn head_size(form: Form, width: u16, height: u16) -> usize
-    ensures { (result ≡ length (head_of form width height)) × (result ≤ 15) }
-{
-    match form {
-        Form::Text => 0,
-        Form::Image => 5 + digit_count(width) + digit_count(height),
+    #[tactic(auto, unfolding(size::specs::Size::lines_of))]
+    pub(crate) fn height(self) -> usize
+        ensures { (result ≡ height_of self.mode) × (result < 100) }
+    {
+        let rows = row_count(self.mode);
+        match self.mode.lines {
+            LineMode::One => rows,
+            LineMode::Two => 2 * rows + 1,
+        }
     }
-}
 
-#[tactic(auto, unfolding(crate::specs::Promises::row_size))]
-pub(crate) fn row_size(form: Form, digits: Digits) -> usize
-    ensures { (result ≡ row_size form digits.count) × (result ≤ 480) }
-{
-    match form {
-        Form::Text => 6 * digits.count,
-        Form::Image => width(digits).div_ceil(8),
+    #[tactic(auto, using(crate::proofs::Lengths::length_head), unfolding(crate::specs::Drawing::head_of))]
+    fn head_size(self) -> usize
+        ensures { (result ≡ length (head_of self.form (width_of self.digits) (height_of self.mode))) × (result ≤ 15) }
+    {
+        match self.form {
+            Form::Text => 0,
+            Form::Image => {
+                5 + digit_count(self.width() as u16) + digit_count(self.height() as u16)
+            }
+        }
     }
-}
 
-#[tactic(auto, unfolding(crate::specs::Promises::gap_size))]
-pub(crate) fn gap_size(form: Form, digits: Digits) -> usize
-    ensures { (result ≡ gap_size form digits.count) × (result ≤ 480) }
-{
-    match form {
-        Form::Text => 1,
-        Form::Image => row_size(form, digits),
+    #[tactic(auto, unfolding(crate::specs::Promises::row_size))]
+    pub(crate) fn row_size(self) -> usize
+        ensures { (result ≡ row_size self.form self.digits) × (result ≤ 480) }
+    {
+        match self.form {
+            Form::Text => 6 * self.digits,
+            Form::Image => self.width().div_ceil(8),
+        }
     }
-}
 
-// All rows of one line of the picture.
-fn line_size(form: Form, mode: Mode, digits: Digits) -> usize
-    ensures { (result ≡ rows_of mode * row_size form digits.count) × (result ≤ most_drawn) }
-{
-    row_count(mode) * row_size(form, digits)
-}
-
-#[tactic(auto, unfolding(crate::specs::Promises::lines_size))]
-fn lines_size(form: Form, mode: Mode, digits: Digits) -> usize
-    ensures { (result ≡ lines_size mode.lines (gap_size form digits.count) (rows_of mode * row_size form digits.count)) × (result ≤ 3 * most_drawn) }
-{
-    let line = line_size(form, mode, digits);
-    let lines = mode.lines;
-    match lines {
-        LineMode::One => line,
-        LineMode::Two => line + (gap_size(form, digits) + line),
+    #[tactic(auto, unfolding(crate::specs::Promises::gap_size))]
+    pub(crate) fn gap_size(self) -> usize
+        ensures { (result ≡ gap_size self.form self.digits) × (result ≤ 480) }
+    {
+        match self.form {
+            Form::Text => 1,
+            Form::Image => self.row_size(),
+        }
     }
-}
 
-#[tactic(auto, unfolding(crate::specs::Promises::size_of))]
-pub(crate) fn byte_size(form: Form, mode: Mode, digits: Digits) -> usize
-    ensures { result ≡ size_of form mode digits.count }
-{
-    head_size(form, width(digits) as u16, height(mode) as u16) + lines_size(form, mode, digits)
+    // All rows of one line of the picture.
+    pub(crate) fn line_size(self) -> usize
+        ensures { (result ≡ rows_of self.mode * row_size self.form self.digits) × (result ≤ most_drawn) }
+    {
+        row_count(self.mode) * self.row_size()
+    }
+
+    #[tactic(auto, unfolding(crate::specs::Promises::lines_size))]
+    fn lines_size(self) -> usize
+        ensures { (result ≡ lines_size self.mode.lines (gap_size self.form self.digits) (rows_of self.mode * row_size self.form self.digits)) × (result ≤ 3 * most_drawn) }
+    {
+        let line = self.line_size();
+        match self.mode.lines {
+            LineMode::One => line,
+            LineMode::Two => line + (self.gap_size() + line),
+        }
+    }
+
+    #[tactic(auto, unfolding(crate::specs::Promises::size_of))]
+    pub(crate) fn byte_size(self) -> usize
+        ensures { result ≡ size_of self.form self.mode self.digits }
+    {
+        self.head_size() + self.lines_size()
+    }
 }

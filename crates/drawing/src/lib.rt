@@ -3,18 +3,16 @@
 
 ghost use Rattle.drawing.specs.Answers.{Drawing};
 
-mod digits;
 mod extent;
 mod form;
 mod head;
+mod layout;
 mod lines;
 mod row;
 
 use controller::registers::Mode;
-use digits::Digits;
-use extent::byte_size;
 pub use form::Form;
-use lines::draw_whole;
+use layout::Layout;
 use refusal::Refusal;
 use size::{byte_count, has_digits};
 
@@ -39,13 +37,15 @@ pub fn draw(
     if dots.len() < byte_count(mode, digits) {
         return Err(Refusal::ShortBuffer);
     }
-    let digits = Digits {
-        count: digits as usize,
+    let layout = Layout {
+        form,
+        mode,
+        digits: digits as usize,
     };
-    let size = byte_size(form, mode, digits);
+    let size = layout.byte_size();
     if out.len() < size {
         return Err(Refusal::ShortBuffer);
     }
-    draw_whole(form, mode, digits, dots, &mut out[..size]);
+    layout.draw_whole(dots, &mut out[..size]);
     Ok(size)
 }

@@ -9,7 +9,7 @@ use std::io::{Read, Write};
 // A byte more than the longest record, so that a longer one is seen.
 const INPUT: u64 = record::MOST_BYTES as u64 + 1;
 
-// The most bytes of a word; a longer one is read as an empty one.
+// The most bytes of a word, in fixed memory; a longer one is read as an empty one.
 const WORD: usize = 4096;
 
 // How many words follow the program's name. Nothing can be promised of what the system hands over, so no library has this.

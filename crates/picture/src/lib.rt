@@ -11,7 +11,7 @@ use refusal::Refusal;
 use size::{byte_count, has_digits};
 use whole::draw;
 
-// Writes lines x rows x digits bytes in the order line, row, digit; a refusal writes none.
+// Writes lines x rows x digits bytes in the order line, row, digit; a refusal writes none. Its parameters are those that C hands in.
 #[tactic(auto, using(size::proofs::Sizes::digits_counted, crate::proofs::Promise::shift_in_range))]
 pub fn picture(
     controller: Controller,

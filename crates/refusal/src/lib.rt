@@ -1,4 +1,4 @@
-// The refusals: what a call answers that does nothing, by this paper's numbers.
+// The refusals, by this paper's numbers: what a call answers that is not done.
 #![tactic(auto)]
 
 ghost use Rattle.std.specs.Prelude.{◌≡◌};

@@ -10,6 +10,7 @@ use text::{put_named, put_text};
 // Numbers of 4 and 5 digits with their names, and `length altered` with the line's end.
 pub(crate) const MOST_BYTES: usize = 24 + 15;
 
+// The buffer is the caller's, so its room is a clause.
 #[tactic(auto, using(crate::proofs::Parts::kept_room, crate::proofs::Parts::dropped_room))]
 fn put_counts(told: Mended, out: &mut [u8]) -> usize
     requires { (told.kept ≤ most_events) × (told.dropped < 65536) × (most_line ≤ length out.old) }

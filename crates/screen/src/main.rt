@@ -12,7 +12,7 @@ const INPUT: u64 = record::MOST_BYTES as u64 + 1;
 
 const IMAGE: u64 = dots::IMAGE_SIZE as u64 + 1;
 
-// The most bytes of a word; a longer one is read as an empty one.
+// The most bytes of a word, in fixed memory; a longer one is read as an empty one.
 const WORD: usize = 4096;
 
 // How many words follow the program's name. Nothing can be promised of what the system hands over, so no library has this.

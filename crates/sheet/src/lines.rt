@@ -31,6 +31,7 @@ fn put_three(
     put_line(third, drive, 3, three, last, out)
 }
 
+// Any drive can be asked for, so that this one is in range is a clause, here and in line.rt, and no part of the type.
 fn put_lines(drive: Drive, steps: Steps, out: &mut [u8]) -> usize
     requires { InRange drive × AllNumbers steps × (most_sheet ≤ length out.old) }
     ensures { Puts (voltage_lines drive steps) 0 out.old result out.new }

@@ -53,6 +53,7 @@ fn lights_read(bytes: &[u8; BYTES]) -> Lights
 fn half_read(bytes: &[u8; BYTES]) -> Half
     ensures { result ≡ half_read (get_or bytes.now 155 0) (get_or bytes.now 156 0) }
 {
+    // 0 where no half waits.
     let number = bytes[155];
     let upper = bytes[156];
     if number == 0 {

@@ -1,4 +1,6 @@
 // One transfer with the memories lent: halves, then the whole byte, each change made where it is decided.
+// The registers go by value beside the memories (bus/src/turn.rt says why). That they are in range is a clause, here and in
+// what lies beside, and no type: an effect holds plain registers, since `obey` takes any.
 #![tactic(auto)]
 
 ghost use Rattle.std.specs.Prelude.{◌*◌, true, false, ◌≡◌};
@@ -37,6 +39,7 @@ fn act(
     let mut after = registers;
     let mut answer = Ok(Reply::Done(0));
     let mut wrap = false;
+    // Four kinds, as the paper has them: a match, here and below, and no table of steps.
     match kind {
         Kind::InstructionWrite => {
             memory::clear(display, byte);

@@ -1,6 +1,6 @@
 -- Each form's row is what its callee draws.
 use Rattle.drawing.specs.Drawing.{row_in}
-use Rattle.drawing.proofs.row.draw_row.Goals as goal
+use Rattle.drawing.proofs.layout.Layout.draw_row.Goals as goal
 
 pub returns-in-Text : goal.returns-in-Text
 unfolding row_in

@@ -2,7 +2,7 @@
 use Rattle.std.proofs.Common.{◌∙◌}
 use Rattle.drawing.specs.Drawing.{gap_in}
 use Rattle.drawing.proofs.Rows.{no_dots}
-use Rattle.drawing.proofs.row.draw_gap.Goals as goal
+use Rattle.drawing.proofs.layout.Layout.draw_gap.Goals as goal
 
 pub returns-in-Image : goal.returns-in-Image
 unfolding gap_in
