@@ -21,15 +21,15 @@ pub const BYTES: usize = 159;
 // The bytes of the two memories.
 const MEMORIES: usize = 144;
 
-// The three parts one behind the other; the bytes behind them stay.
+// The three parts one behind the other; the bytes behind them stay. By value: of parts that are lent the whole controller is copied first.
 #[tactic(auto, using(crate::proofs::Promise::three_put))]
-fn put_parts(display: &[u8; 80], character: &[u8; 64], registers: &[u8; 15], out: &mut [u8])
+fn put_parts(display: [u8; 80], character: [u8; 64], registers: [u8; 15], out: &mut [u8])
     requires { state_bytes ≤ length out.old }
-    ensures { out.new ≡ over (display.now ++ (character.now ++ registers.now)) out.old }
+    ensures { out.new ≡ over (display ++ (character ++ registers)) out.old }
 {
-    out[0..80].copy_from_slice(display);
-    out[80..MEMORIES].copy_from_slice(character);
-    out[MEMORIES..BYTES].copy_from_slice(registers);
+    out[0..80].copy_from_slice(&display);
+    out[80..MEMORIES].copy_from_slice(&character);
+    out[MEMORIES..BYTES].copy_from_slice(&registers);
 }
 
 // The controller, in range or not, in the first 159 bytes; those behind them stay, and a refusal writes none.
@@ -40,7 +40,7 @@ pub fn put(controller: Controller, out: &mut [u8]) -> Result<(), Refusal>
         return Err(Refusal::ShortBuffer);
     }
     let registers = registers_put(controller.registers);
-    put_parts(&controller.display, &controller.character, &registers, out);
+    put_parts(controller.display, controller.character, registers, out);
     Ok(())
 }
 

@@ -1,17 +1,16 @@
 -- Laws of decimal digits.
 use Prim.Native.Char.{code}
 use Prim.Native.Nat.{ℕ, zero, suc, ◌+◌, ◌*◌, ◌-◌, ◌/◌, ◌%◌, ◌^◌, ◌≤◌, ◌<◌}
-use Rattle.std.specs.Prelude.{Option, Some, None, IfSome, IfNone, unwrap_or}
 use borrow.Author.Tests.{ltb-true, ltb-false, lt-ltb, le-ltb}
 use lib.Dec.{ltb}
 use lib.ListN.{length, set, length-append, length-set}
 use mathlib.Core.Bool.{Bool, true, false, cond}
 use mathlib.Core.List.{List, [], ◌∷◌, ◌++◌}
-use mathlib.Core.Path.{◌≡◌, refl, ap, ◌∙◌}
+use mathlib.Core.Path.{◌≡◌, refl, sym, ap, ◌∙◌}
 use native.Mathlib.Nat.{one-le-pow}
 use native.Mathlib.Omega.{arith}
-use Rattle.lent.proofs.Placed.{put_one, put_before}
-use Rattle.lent.specs.Put.{put_at}
+use Rattle.lent.proofs.Placed.{put_one, puts_one, put_before}
+use Rattle.lent.specs.Put.{put_at, Puts}
 use Rattle.text.specs.Text.{digit_of, digits_of, decimal_of, meant_by}
 use Rattle.text.specs.Theorems.{DecimalRule, DecimalReadsBack}
 
@@ -71,12 +70,25 @@ digits_are k n h h' =
     let within : n < 10 ^ suc k = omega arith in
     omega (arith, digits_below k n within, digits_from k n h)
 
--- by the greatest power of ten that is no more than the number
-pub digits_counted : (n : ℕ) (power : Option ℕ) → IfNone power (n ≡ 0) → IfSome power (λ k. 10 ^ k ≤ n) → IfSome power (λ k. n < 10 * 10 ^ k) → unwrap_or power 0 + 1 ≡ length (decimal_of n)
-digits_counted n None z h h' = omega (arith, one_digit n (omega arith))
-digits_counted n (Some k) z h h' = digits_are k n h h'
+pub two_digits : (n : ℕ) → 10 ≤ n → n < 100 → length (decimal_of n) ≡ 2
+two_digits n h h' = sym (digits_are 1 n h h')
+
+pub three_digits : (n : ℕ) → 100 ≤ n → n < 1000 → length (decimal_of n) ≡ 3
+three_digits n h h' = sym (digits_are 2 n h h')
+
+pub four_digits : (n : ℕ) → 1000 ≤ n → n < 10000 → length (decimal_of n) ≡ 4
+four_digits n h h' = sym (digits_are 3 n h h')
+
+pub five_digits : (n : ℕ) → 10000 ≤ n → n < 100000 → length (decimal_of n) ≡ 5
+five_digits n h h' = sym (digits_are 4 n h h')
 
 -- ---- digits put from the last to the first
+
+-- a number below ten as a whole
+pub lone_digit : (n place : ℕ) (out : List ℕ) → n < 10 → place < length out → Puts (decimal_of n) place out (place + 1) (set out place (digit_of (n % 10)))
+lone_digit n place out small room =
+    let own : n % 10 ≡ n = omega arith in
+    rw (own, decimal_small n small) (puts_one place (digit_of n) out room)
 
 -- what is missing of a number's digits: those of the rest, up to `last`
 pub record Missing (n place : ℕ) (out : List ℕ) (last rest : ℕ) (now : List ℕ) : Type 0 where
