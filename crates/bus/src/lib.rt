@@ -46,7 +46,7 @@ pub fn transfer(controller: Controller, kind: Kind, value: u8) -> Outcome
             character,
             registers: effect.registers,
         },
-        answer: effect.answer,
+        answer: effect.answer.result(),
         wrap: effect.wrap,
     }
 }

@@ -6,11 +6,10 @@ ghost use Rattle.controller.specs.Told.{told_with};
 ghost use Rattle.bus.specs.Events.{told_by};
 ghost use Rattle.bus.specs.Transfer.{transfer_of};
 
-use controller::answer::Reply;
+use controller::answer::Answer;
 use controller::effect::Effect;
 use controller::registers::Registers;
 use event::{Event, Kind};
-use refusal::Refusal;
 
 #[tactic(auto, using(condition::proofs::Tests::holds, crate::proofs::Free::transfer_steps), unfolding(crate::specs::Transfer::transfer_of, step::specs::Step::result_for, controller::specs::Memory::display_after, controller::specs::Memory::character_after))]
 pub(crate) fn transferred(
@@ -24,7 +23,7 @@ pub(crate) fn transferred(
     ensures { told_with display.new character.new result ≡ transfer_of (with display.old character.old registers) kind value }
 {
     let mut after = registers;
-    let mut answer = Err(Refusal::Busy);
+    let mut answer = Answer::Busy;
     let mut wrap = false;
     if !step::refused_busy(registers, kind) {
         let effect = step::step(display, character, registers, kind, value);
@@ -50,7 +49,7 @@ pub fn turn(
     ensures { (told_with display.new character.new result ≡ told_by event (with display.old character.old registers)) × (in_range result.registers ≡ true) }
 {
     let mut after = registers;
-    let mut answer = Ok(Reply::Done(0));
+    let mut answer = Answer::Done(0);
     let mut wrap = false;
     match event {
         Event::Transfer(kind, value) => {

@@ -2,6 +2,7 @@
 use Rattle.std.specs.Prelude.{ℕ, Bool, false, Result, Ok, Err}
 use Rattle.refusal.specs.Refusals.{number}
 use Rattle.refusal.specs.declared.Refusal.{Refusal}
+use Rattle.controller.specs.declared.answer.Answer.{Answer}
 use Rattle.controller.specs.declared.answer.Reply.{Reply}
 use Rattle.controller.specs.declared.answer.Reply.TheVariants.{Done, FirstHalf}
 
@@ -27,3 +28,11 @@ abbrev pub said_of : Result Reply Refusal → Said
 said_of (Ok (Done v)) = saying 0 v
 said_of (Ok (FirstHalf v)) = saying 20 v
 said_of (Err refusal) = refused (number refusal)
+
+-- what the code's step answers, as what a call answers
+abbrev pub answered_as : Answer → Result Reply Refusal
+answered_as (Answer.Done v) = Ok (Reply.Done v)
+answered_as (Answer.FirstHalf v) = Ok (Reply.FirstHalf v)
+answered_as Answer.Busy = Err Refusal.Busy
+answered_as Answer.HalvesDisagree = Err Refusal.HalvesDisagree
+answered_as Answer.NoSuchAddress = Err Refusal.NoSuchAddress

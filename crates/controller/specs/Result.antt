@@ -1,7 +1,7 @@
 -- What a transfer comes to: what is told, the registers, and the change of memory.
 use Rattle.std.specs.Prelude.{ℕ, Bool}
 use Rattle.halves.specs.declared.Half.{Half}
-use Rattle.controller.specs.Answers.{Said, saying, wrapping, refused, said_of}
+use Rattle.controller.specs.Answers.{Said, saying, wrapping, refused, said_of, answered_as}
 use Rattle.controller.specs.Memory.{Change}
 use Rattle.controller.specs.Part.{awaiting}
 use Rattle.controller.specs.declared.effect.Effect.{Effect}
@@ -14,7 +14,7 @@ pub record Result : Type 0 where
 
 -- an effect of the code, beside a change of memory
 abbrev pub result_of : Effect → Change → Result
-result_of e m = record { said = wrapping e.wrap (said_of e.answer); registers = e.registers; change = m }
+result_of e m = record { said = wrapping e.wrap (said_of (answered_as e.answer)); registers = e.registers; change = m }
 
 -- done with the value v, saying w of the wrap: no half waits, and the part is busy for t ticks
 abbrev pub done : (w : Bool) (v t : ℕ) → Registers → Change → Result

@@ -1,6 +1,6 @@
 -- What a caller is told of a transfer or a wait, and the controller that it gets back.
 use Rattle.std.specs.Prelude.{ℕ, List}
-use Rattle.controller.specs.Answers.{Said, wrapping, refused, said_of}
+use Rattle.controller.specs.Answers.{Said, wrapping, refused, said_of, answered_as}
 use Rattle.controller.specs.Memory.{byte_at, display_after, character_after}
 use Rattle.controller.specs.Part.{with}
 use Rattle.controller.specs.Result.{Result}
@@ -13,7 +13,7 @@ pub record Told : Type 0 where
 
 -- what is told of an effect of the code that left these two memories
 abbrev pub told_with : (display character : List ℕ) → Effect → Told
-told_with d m e = record { said = wrapping e.wrap (said_of e.answer); controller = with d m e.registers }
+told_with d m e = record { said = wrapping e.wrap (said_of (answered_as e.answer)); controller = with d m e.registers }
 
 -- the byte that the counter addresses
 abbrev pub addressed : Controller → ℕ

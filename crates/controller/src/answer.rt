@@ -1,6 +1,6 @@
 // The answers to a transfer or a wait: a reply, or a refusal, which carries no value.
 ghost use Rattle.std.specs.Prelude.{◌≡◌};
-ghost use Rattle.controller.specs.Answers.{said_of};
+ghost use Rattle.controller.specs.Answers.{said_of, answered_as};
 
 use refusal::Refusal;
 
@@ -9,6 +9,31 @@ use refusal::Refusal;
 pub enum Reply {
     Done(u8),
     FirstHalf(u8),
+}
+
+// What the step answers, with one tag: of a Result of a Reply the loop over events would test two, after each event.
+#[derive(Clone, Copy, PartialEq, Eq)]
+pub enum Answer {
+    Done(u8),
+    FirstHalf(u8),
+    Busy,
+    HalvesDisagree,
+    NoSuchAddress,
+}
+
+impl Answer {
+    // As a call answers it.
+    pub fn result(self) -> Result<Reply, Refusal>
+        ensures { result ≡ answered_as self }
+    {
+        match self {
+            Answer::Done(read) => Ok(Reply::Done(read)),
+            Answer::FirstHalf(read) => Ok(Reply::FirstHalf(read)),
+            Answer::Busy => Err(Refusal::Busy),
+            Answer::HalvesDisagree => Err(Refusal::HalvesDisagree),
+            Answer::NoSuchAddress => Err(Refusal::NoSuchAddress),
+        }
+    }
 }
 
 // This paper's number.

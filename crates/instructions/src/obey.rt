@@ -6,7 +6,7 @@ ghost use Rattle.instructions.specs.Instructions.{homed as homed_of, rearranged 
 
 use super::instruction::Instruction;
 use controller::Controller;
-use controller::answer::Reply;
+use controller::answer::Answer;
 use controller::effect::Effect;
 use controller::registers::{Entry, Mode, Registers};
 use counters::LineMode;
@@ -14,7 +14,6 @@ use counters::address::DisplayAddress;
 use counters::counter::Counter;
 use counters::shift::Shift;
 use halves::{Half, LineCount};
-use refusal::Refusal;
 
 // Address 00 of display memory and shift 0.
 fn homed(registers: Registers) -> Registers
@@ -55,7 +54,7 @@ pub fn obey(registers: Registers, instruction: Instruction) -> Effect
 {
     let mut after = registers;
     let mut ticks = Controller::SHORT;
-    let mut answer = Ok(Reply::Done(0));
+    let mut answer = Answer::Done(0);
     let mut wrap = false;
     match instruction {
         Instruction::Nothing => {}
@@ -113,7 +112,7 @@ pub fn obey(registers: Registers, instruction: Instruction) -> Effect
                 };
             } else {
                 ticks = registers.busy;
-                answer = Err(Refusal::NoSuchAddress);
+                answer = Answer::NoSuchAddress;
             }
         }
     }

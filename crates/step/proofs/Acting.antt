@@ -1,6 +1,5 @@
 -- A whole byte of each kind, from what the code leaves to what the rule says.
 use Prim.Native.Nat.{ℕ}
-use Rattle.std.specs.Prelude.{Ok}
 use lib.Dec.{eqb}
 use lib.ListN.{replicate}
 use mathlib.Core.Bool.{Bool, true, false, cond}
@@ -12,7 +11,7 @@ use Rattle.controller.specs.Part.{awaiting, with}
 use Rattle.controller.specs.Result.{result_of}
 use Rattle.controller.specs.Told.{told_with, addressed}
 use Rattle.controller.specs.declared.Controller.{Controller}
-use Rattle.controller.specs.declared.answer.Reply.TheVariants.{Done}
+use Rattle.controller.specs.declared.answer.Answer.TheVariants.{Done}
 use Rattle.controller.specs.declared.effect.Effect.{Effect}
 use Rattle.event.specs.declared.Kind.{Kind}
 use Rattle.event.specs.declared.Kind.TheVariants.{InstructionWrite, DataWrite, StatusRead, DataRead}
@@ -57,7 +56,7 @@ module _ (c : Controller) {k : Kind} (n : ℕ) where
     write_acts f p q = met (λ j. acted c j n) f (rw (p.0, p.1, q, h))
 
     pub status_acts : {v : ℕ} → k ≡ StatusRead → v ≡ answered c.registers.bus (status_of c.registers)
-        → told_with c.display c.character (record { registers = c.registers; answer = Ok (Done v); wrap = false }) ≡ acted c k n
+        → told_with c.display c.character (record { registers = c.registers; answer = Done v; wrap = false }) ≡ acted c k n
     unfolding act read_status read_of display_after character_after
     status_acts f p = met (λ j. acted c j n) f (λ i. record {
       said = record { number = 0; value = p i; wrap = false };

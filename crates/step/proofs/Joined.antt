@@ -1,6 +1,5 @@
 -- A transfer disagrees with the half that waits, or is a first half, or completes a byte: the one law of halves.
 use Prim.Native.Nat.{ℕ, ◌*◌}
-use Rattle.std.specs.Prelude.{Ok, Err}
 use mathlib.Core.Bool.{Bool, true, false, cond, not, false≢true}
 use mathlib.Core.Path.{◌≡◌, ◌∙◌, ap, refl, sym}
 use Rattle.controller.specs.Memory.{display_after, character_after}
@@ -8,7 +7,8 @@ use Rattle.controller.specs.Part.{arranged, awaiting, with}
 use Rattle.controller.specs.Result.{Result, forgotten, leaving}
 use Rattle.controller.specs.Told.{Told, told_with, addressed, carried}
 use Rattle.controller.specs.declared.Controller.{Controller}
-use Rattle.controller.specs.declared.answer.Reply.TheVariants.{FirstHalf}
+use Rattle.controller.specs.declared.answer.Answer.{Answer}
+use Rattle.controller.specs.declared.answer.Answer.TheVariants.{FirstHalf}
 use Rattle.controller.specs.declared.registers.Registers.{Registers}
 use Rattle.counters.specs.declared.counter.Counter.{Counter}
 use Rattle.counters.specs.declared.counter.Counter.TheVariants.{Display, Character}
@@ -21,7 +21,6 @@ use Rattle.halves.specs.declared.LineCount.{LineCount}
 use Rattle.halves.specs.declared.LineCount.TheVariants.{Eight, Four}
 use Rattle.instructions.proofs.Rows.{half_is_forgotten}
 use Rattle.instructions.specs.Instructions.{decode}
-use Rattle.refusal.specs.declared.Refusal.TheVariants.{HalvesDisagree}
 use Rattle.step.specs.Acted.{read_from, acted}
 use Rattle.step.specs.Data.{shift_after, status_of, read_of, write_data, read_status, read_data, act}
 use Rattle.step.specs.Step.{first_half, second_half, on_four, on_bus, refused_busy, result_for, stepped}
@@ -96,12 +95,12 @@ module _ (c : Controller) (k : Kind) (n : ℕ) (free : refused_busy c.registers 
   stepped_joined = ap (carried c) (rw free (bus_joined k r n (read_from c k) r.bus))
 
   pub first_steps : {h : Half} {v : ℕ} → is_first r.bus r.half ≡ true → h ≡ Half.Waiting k (held_by k n) → v ≡ upper (read_from c k) * 16
-      → told_with c.display c.character (record { registers = awaiting r h r.busy; answer = Ok (FirstHalf v); wrap = false }) ≡ stepped c k n
+      → told_with c.display c.character (record { registers = awaiting r h r.busy; answer = FirstHalf v; wrap = false }) ≡ stepped c k n
   unfolding first_half display_after character_after
   first_steps e p q = rw (stepped_joined, first_agrees r.bus r.half k e, e, p, q)
 
   pub disagree_steps : disagrees r.bus r.half k ≡ true
-      → told_with c.display c.character (record { registers = awaiting r Half.Nothing r.busy; answer = Err HalvesDisagree; wrap = false }) ≡ stepped c k n
+      → told_with c.display c.character (record { registers = awaiting r Half.Nothing r.busy; answer = Answer.HalvesDisagree; wrap = false }) ≡ stepped c k n
   unfolding display_after character_after
   disagree_steps e = rw (stepped_joined, e)
 

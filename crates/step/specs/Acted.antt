@@ -1,9 +1,9 @@
 -- For the contracts of `act`, `upper_read` and `stepped_to` alone, no rule: a whole byte given to a controller in range, and the registers behind data.
-use Rattle.std.specs.Prelude.{ℕ, Ok}
+use Rattle.std.specs.Prelude.{ℕ}
 use Rattle.controller.specs.Part.{placed, awaiting, counter_stepped, passes_end}
 use Rattle.controller.specs.Told.{Told, addressed, carried}
 use Rattle.controller.specs.declared.Controller.{Controller}
-use Rattle.controller.specs.declared.answer.Reply.TheVariants.{Done}
+use Rattle.controller.specs.declared.answer.Answer.TheVariants.{Done}
 use Rattle.controller.specs.declared.effect.Effect.{Effect}
 use Rattle.controller.specs.declared.registers.Registers.{Registers}
 use Rattle.counters.specs.declared.shift.Shift.{Shift}
@@ -21,4 +21,4 @@ acted c k n = carried c (act k c.registers n (answered c.registers.bus (read_fro
 -- the value read; the counter stepped in the set direction, and whether it passed an end; this shift; 10 ticks
 abbrev pub stepped_to : Shift → (read : ℕ) → Registers → Effect
 stepped_to s v r =
-    record { registers = awaiting (placed r (counter_stepped r.entry.up r) s) r.half 10; answer = Ok (Done v); wrap = passes_end r.entry.up r }
+    record { registers = awaiting (placed r (counter_stepped r.entry.up r) s) r.half 10; answer = Done v; wrap = passes_end r.entry.up r }

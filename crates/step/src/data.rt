@@ -5,7 +5,7 @@ ghost use Rattle.step.specs.Acted.{stepped_to};
 ghost use Rattle.step.specs.Data.{shift_after, status_of};
 
 use controller::Controller;
-use controller::answer::Reply;
+use controller::answer::Answer;
 use controller::effect::Effect;
 use controller::registers::Registers;
 use counters::counter::Counter;
@@ -40,7 +40,7 @@ pub(crate) fn stepped_to(registers: Registers, shift: Shift, read: u8) -> Effect
             busy: Controller::SHORT,
             ..registers
         },
-        answer: Ok(Reply::Done(read)),
+        answer: Answer::Done(read),
         wrap: step.wrap,
     }
 }

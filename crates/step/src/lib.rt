@@ -13,14 +13,13 @@ ghost use Rattle.step.specs.Step.{refused_busy, stepped};
 mod data;
 mod memory;
 
-use controller::answer::Reply;
+use controller::answer::Answer;
 use controller::effect::Effect;
 use controller::registers::Registers;
 use event::Kind;
 use halves::{Half, answered};
 use instructions::instruction::decode;
 use instructions::obey::obey;
-use refusal::Refusal;
 
 // A whole byte, as on eight lines; no half waits any more.
 #[tactic(auto, using(controller::proofs::Ranged::counter_exists))]
@@ -37,7 +36,7 @@ fn act(
     // One exit, here as in every function of the step: arms that each end in an effect of their own are merged through memory.
     let bus = registers.bus;
     let mut after = registers;
-    let mut answer = Ok(Reply::Done(0));
+    let mut answer = Answer::Done(0);
     let mut wrap = false;
     // Four kinds, as the paper has them: a match, here and below, and no table of steps.
     match kind {
@@ -56,7 +55,7 @@ fn act(
             wrap = effect.wrap;
         }
         Kind::StatusRead => {
-            answer = Ok(Reply::Done(answered(bus, data::status(registers))));
+            answer = Answer::Done(answered(bus, data::status(registers)));
         }
         Kind::DataRead => {
             let read = memory::addressed(&*display, &*character, registers);
@@ -112,14 +111,14 @@ pub fn step(
         half: Half::Nothing,
         ..registers
     };
-    let mut answer = Err(Refusal::HalvesDisagree);
+    let mut answer = Answer::HalvesDisagree;
     let mut wrap = false;
     if half.is_first(bus) {
         after = Registers {
             half: Half::of(kind, value),
             ..registers
         };
-        answer = Ok(Reply::FirstHalf(upper_read(&*display, &*character, registers, kind)));
+        answer = Answer::FirstHalf(upper_read(&*display, &*character, registers, kind));
     } else if !half.disagrees(bus, kind) {
         let byte = half.completed(bus, value);
         let effect = act(display, character, after, kind, byte);

@@ -1,11 +1,11 @@
 -- A transfer or a wait, as the event says; the range is kept.
-use Rattle.std.proofs.Common.{◌≡◌, ◌∙◌, ap, sym, ℕ, List, T, true, false, Ok}
+use Rattle.std.proofs.Common.{◌≡◌, ◌∙◌, ap, sym, ℕ, List, T, true, false}
 use mathlib.Core.Path.{subst⁻¹}
 use Rattle.condition.proofs.Tests.{holds, is_true}
 use Rattle.controller.specs.Part.{with, waited, in_range}
 use Rattle.controller.specs.Told.{Told, told_with}
 use Rattle.controller.specs.declared.Controller.{Controller}
-use Rattle.controller.specs.declared.answer.Reply.TheVariants.{Done}
+use Rattle.controller.specs.declared.answer.Answer.TheVariants.{Done}
 use Rattle.controller.specs.declared.effect.Effect.{Effect}
 use Rattle.controller.specs.declared.registers.Registers.{Registers}
 use Rattle.event.specs.declared.Event.{Event}
@@ -23,9 +23,9 @@ gave c t {met = met} u e p = (
 )
 
 waited_out : (c : Controller) (n : ℕ) {r : Registers} → in_range c.registers ≡ true → r ≡ waited c.registers n
-    → told_with c.display c.character (record { registers = r; answer = Ok (Done 0); wrap = false }) ≡ wait_of c n
+    → told_with c.display c.character (record { registers = r; answer = Done 0; wrap = false }) ≡ wait_of c n
 waited_out c n u e =
-    ap (λ (x : Registers). told_with c.display c.character (record { registers = x; answer = Ok (Done 0); wrap = false })) e
+    ap (λ (x : Registers). told_with c.display c.character (record { registers = x; answer = Done 0; wrap = false })) e
     ∙ sym (waited_told_lem c n (holds _ u))
 
 pub returns-in-Transfer : goal.returns-in-Transfer
@@ -36,5 +36,5 @@ returns-in-Transfer c =
 pub returns-in-Wait : goal.returns-in-Wait
 unfolding told_by
 returns-in-Wait c =
-    gave (with c.args.display.now c.args.character.now c.args.registers) (record { registers = c.waited-after.result; answer = Ok (Done 0); wrap = false }) c.requires c.in-Wait.is
+    gave (with c.args.display.now c.args.character.now c.args.registers) (record { registers = c.waited-after.result; answer = Done 0; wrap = false }) c.requires c.in-Wait.is
     (waited_out (with c.args.display.now c.args.character.now c.args.registers) _ c.requires c.waited-after.ensures)
