@@ -1,6 +1,5 @@
--- A half that waits is below 16, the half of a read is 0; halves of one kind agree; the test of four lines.
-use Prim.Native.Nat.{ℕ, ◌≤◌}
-use denote.Enum.Bare.{sameb}
+-- A half that waits is below 16, the half of a read is 0; halves of one kind agree; what is completed and answered, by the line count.
+use Prim.Native.Nat.{ℕ, ◌+◌, ◌*◌, ◌≤◌}
 use lib.Dec.{T, leb, leb→le, le→leb}
 use mathlib.Core.Bool.{Bool, true, false, cond}
 use mathlib.Core.Path.{◌≡◌, refl}
@@ -9,9 +8,8 @@ use Rattle.condition.proofs.Tests.{and_right}
 use Rattle.event.specs.Kind.{is_read}
 use Rattle.event.specs.declared.Kind.{Kind}
 use Rattle.event.specs.declared.Kind.TheVariants.{InstructionWrite, DataWrite, StatusRead, DataRead}
-use Rattle.halves.specs.Halves.{upper, is_four, most_half, half_fits, is_first, disagrees}
+use Rattle.halves.specs.Halves.{upper, lower, is_four, most_half, half_fits, upper_of, is_first, disagrees, completed, answered}
 use Rattle.halves.specs.Theorems.{UpperFits, FirstFits}
-use Rattle.halves.specs.contracts.LineCount.{the_type}
 use Rattle.halves.specs.declared.Half.{Half}
 use Rattle.halves.specs.declared.LineCount.{LineCount}
 use Rattle.halves.specs.declared.LineCount.TheVariants.{Eight, Four}
@@ -47,7 +45,12 @@ same_kind_agrees Four StatusRead u = refl
 same_kind_agrees Four DataRead u = refl
 
 -- ---- by the line count, as the code tests it
-pub four_by_eq : (b : LineCount) → sameb the_type b Four ≡ is_four b
-unfolding is_four
-four_by_eq Eight = refl
-four_by_eq Four = refl
+pub completed_by_lines : (b : LineCount) (h : Half) (n : ℕ) → completed b h n ≡ cond (is_four b) (upper_of h * 16 + upper n) n
+unfolding completed is_four
+completed_by_lines Eight h n = refl
+completed_by_lines Four h n = refl
+
+pub answered_by_lines : (b : LineCount) (v : ℕ) → answered b v ≡ cond (is_four b) (lower v * 16) v
+unfolding answered is_four
+answered_by_lines Eight v = refl
+answered_by_lines Four v = refl
