@@ -82,10 +82,7 @@ impl Half {
     pub fn is_first(self, bus: LineCount) -> bool
         ensures { result ≡ is_first bus self }
     {
-        match self {
-            Half::Nothing => bus.is_four(),
-            Half::Waiting(_, _) => false,
-        }
+        (self == Half::Nothing) & bus.is_four()
     }
 
     // Whether a transfer of this kind disagrees with the half that waits.
